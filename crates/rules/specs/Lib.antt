@@ -1,0 +1,15 @@
+pub mod Limits
+pub mod Lists
+pub mod Tree
+pub mod Records
+pub mod File
+pub mod Graph
+pub mod Liveness
+pub mod Refusals
+pub mod Slots
+pub mod Plan
+pub mod Rewriting
+pub mod Services
+pub mod TwoRuns
+pub mod Demand3
+pub mod Sheets

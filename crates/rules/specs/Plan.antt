@@ -1,0 +1,165 @@
+-- Planning: document 01's walk over blocks by ascending index and instructions last first, which gives slots and the
+-- numbers of new values and blocks. A number stands beside the operand or definition that it is made for; what is
+-- written follows from the numbers and the slots alone (Rewriting.antt).
+use Prim.Native.Nat.{ℕ, suc}
+use mathlib.Core.Bool.{Bool, true, false, cond}
+use mathlib.Core.Option.{Option, none, some}
+use mathlib.Core.List.{List, [], _∷_, _++_, map}
+use lib.ListN.{length}
+use Rattle.rules.specs.Lists.{any, keep, orElse, zipWith, members}
+use Rattle.rules.specs.Tree.{Value, Edge, Instruction, Block, Function}
+use Rattle.rules.specs.Graph.{blockAt, sizeOf, instructionsOf, valuesAmong, reachable}
+use Rattle.rules.specs.Liveness.{State, process, listsOf, isSpilled}
+use Rattle.rules.specs.Slots.{StackSlots, noSlots, giveSlot, freeSlot}
+use Rattle.rules.specs.declared.EdgeArgument.{EdgeArgument}
+use Rattle.rules.specs.declared.EdgeArgument.the-variants as passes
+
+-- what has been made so far
+pub record Plan : Type 0 where
+  pub slots : StackSlots
+  pub values : List Value  -- the file's and the new ones
+  pub blocks : ℕ  -- how many, landings with the file's
+
+-- the first of the values made for an operand or a definition, or a landing's number; none where nothing is made
+abbrev pub Made : Type 0
+Made = Option ℕ
+
+pub record EdgePlan : Type 0 where
+  pub landing : Made
+  pub arguments : List Made
+
+pub record InstructionPlan : Type 0 where
+  pub arguments : List Made
+  pub results : List Made
+  pub edges : List EdgePlan
+
+pub record BlockPlan : Type 0 where
+  pub parameters : List Made
+  pub instructions : List InstructionPlan
+
+-- a step of planning
+abbrev pub M : Type 0 → Type 0
+M A = Plan → A × Plan
+
+infixl 10 _>>=_
+abbrev pub _>>=_ : {A B : Type 0} → M A → (A → M B) → M B
+_>>=_ m k = λ p. let r = m p in k (r .0) (r .1)
+
+abbrev pub pure : {A : Type 0} → A → M A
+pure a = λ p. (a, p)
+
+-- a step for each member, the first one first
+abbrev pub forEach : {A B : Type 0} → (A → M B) → List A → M (List B)
+forEach k [] = pure []
+forEach k (x ∷ xs) = do
+  y ← k x
+  ys ← forEach k xs
+  pure (y ∷ ys)
+
+-- a step for each member, the last one first
+abbrev pub forEachBackward : {A B : Type 0} → (A → M B) → List A → M (List B)
+forEachBackward k [] = pure []
+forEachBackward k (x ∷ xs) = do
+  ys ← forEachBackward k xs
+  y ← k x
+  pure (y ∷ ys)
+
+-- new values are unmarked, and new values and blocks are numbered as they are made
+abbrev pub newValue : ℕ → M ℕ
+newValue size p = (
+  length (p .values),
+  record { slots = p .slots; values = p .values ++ (record { size = size; marked = false } ∷ []); blocks = p .blocks },
+)
+
+abbrev pub newBlock : M ℕ
+newBlock p = (p .blocks, record { slots = p .slots; values = p .values; blocks = suc (p .blocks) })
+
+abbrev pub changeSlots : (StackSlots → StackSlots) → M Unit
+changeSlots change p = (tt, record { slots = change (p .slots); values = p .values; blocks = p .blocks })
+
+module _ (f : Function) (pointer : ℕ) where
+  -- a slot for a value that has none
+  abbrev pub planSlot : ℕ → M Unit
+  planSlot v = changeSlots (giveSlot v (sizeOf f v))
+
+  -- Rule 1, and parameters: a spilled definition that has a slot is stored there, through an address, and its slot is free.
+  abbrev pub planStore : ℕ → Option ℕ → M Made
+  planStore v none = pure none
+  planStore v (some slot) = do
+    address ← newValue pointer
+    _ ← changeSlots (freeSlot slot (sizeOf f v))
+    pure (some address)
+
+  abbrev pub planDefinition : ℕ → M Made
+  planDefinition v p = cond (isSpilled f v) (planStore v (p .slots .slotOf v) p) (none, p)
+
+  -- Rule 3: a spilled use gives its value a slot if it has none, and has an address and a load of its own.
+  abbrev pub planLoad : ℕ → M Made
+  planLoad v = do
+    _ ← planSlot v
+    address ← newValue pointer
+    _ ← newValue (sizeOf f v)
+    pure (some address)
+
+  abbrev pub planUse : ℕ → M Made
+  planUse v = cond (isSpilled f v) (planLoad v) (pure none)
+
+  abbrev pub planEdgeUse : EdgeArgument → M Made
+  planEdgeUse (passes.Value v) = planUse v
+  planEdgeUse (passes.Returned _) = pure none
+  planEdgeUse (passes.Exception _) = pure none
+
+  abbrev pub planEdge : Edge → M EdgePlan
+  planEdge e = do
+    ns ← forEach planEdgeUse (e .arguments)
+    pure (record { landing = none; arguments = ns })
+
+  -- Rule 2, in a landing: a spilled value is reloaded, a word becomes a parameter of the target parameter's size.
+  abbrev pub planLanded : EdgeArgument → ℕ → M Made
+  planLanded (passes.Value v) size = planUse v
+  planLanded (passes.Returned _) size = do
+    parameter ← newValue size
+    pure (some parameter)
+  planLanded (passes.Exception _) size = do
+    parameter ← newValue size
+    pure (some parameter)
+
+  -- Rule 2: an edge that passes a spilled value gets a landing block.
+  abbrev pub planLanding : Edge → M EdgePlan
+  planLanding e = do
+    b ← newBlock
+    ns ← forEach (λ m. m) (zipWith (λ x p. planLanded x (sizeOf f p)) (e .arguments) (blockAt f (e .target) .parameters))
+    pure (record { landing = some b; arguments = ns })
+
+  abbrev pub planSafepointEdge : Edge → M EdgePlan
+  planSafepointEdge e =
+      cond (any (isSpilled f) (valuesAmong (e .arguments)))
+      (planLanding e)
+      (pure (record { landing = none; arguments = map (λ _. none) (e .arguments) }))
+
+  -- One instruction: rule 1; at a safepoint rule 2; rule 3. No edge of a safepoint has a spilled use left for rule 3: one
+  -- that passes a spilled value has a landing.
+  abbrev pub planInstruction : Instruction × Option (List ℕ) → M InstructionPlan
+  planInstruction (i, none) = do
+    rs ← forEach planDefinition (i .results)
+    us ← forEach planUse (i .arguments)
+    es ← forEach planEdge (i .edges)
+    pure (record { arguments = us; results = rs; edges = es })
+  planInstruction (i, some list) = do
+    rs ← forEach planDefinition (i .results)
+    _ ← forEach planSlot list
+    es ← forEach planSafepointEdge (i .edges)
+    us ← forEach planUse (i .arguments)
+    pure (record { arguments = us; results = rs; edges = es })
+
+  -- One block: slots for the spilled values in live-out, ascending; instructions, last first; parameters as in rule 1.
+  abbrev pub planBlock : ℕ → M BlockPlan
+  planBlock b = do
+    _ ← forEach planSlot (keep (isSpilled f) (members (length (f .values)) (process f .outs b)))
+    is ← forEachBackward planInstruction (zipWith (λ i l. (i, l)) (instructionsOf (blockAt f b)) (listsOf f b))
+    ps ← forEach planDefinition (blockAt f b .parameters)
+    pure (record { parameters = ps; instructions = is })
+
+  -- blocks by ascending index
+  unfoldable pub planned : List BlockPlan × Plan
+  planned = forEach planBlock (reachable f) (record { slots = noSlots; values = f .values; blocks = length (f .blocks) })
