@@ -181,6 +181,12 @@ unreachable =
     (1, 4, 1, 0) ∷ (2, 0, 0, 0) ∷ (4, 0, 7, 0) ∷ (5, 0, 0, 0) ∷ (4, 2, 8, 0) ∷ (7, 1, 0, 0) ∷ (2, 0, 1, 0) ∷ (4, 2, 9, 0)
     ∷ (6, 0, 0, 0) ∷ (2, 0, 2, 0) ∷ (4, 2, 8, 0) ∷ (7, 1, 0, 0) ∷ []
 
+-- block 1 uses v0, which only block 2 behind it defines
+undominated : List Row
+undominated =
+    (1, 4, 1, 0) ∷ (2, 0, 0, 0) ∷ (4, 2, 8, 0) ∷ (7, 1, 0, 0) ∷ (2, 0, 1, 0) ∷ (4, 1, 8, 0) ∷ (4, 0, 9, 0) ∷ (6, 0, 0, 0)
+    ∷ (4, 2, 8, 0) ∷ (7, 2, 0, 0) ∷ (2, 0, 2, 0) ∷ (4, 0, 7, 0) ∷ (5, 0, 0, 0) ∷ (4, 2, 8, 0) ∷ (7, 1, 0, 0) ∷ []
+
 -- two edges to one target
 two-edges : List Row
 two-edges =
@@ -289,6 +295,15 @@ sheets =
           ∷ (8, 0, 8, 0) ∷ (8, 0, 9, 0) ∷ (8, 0, 1, 0) ∷ (2, 0, 1, 0) ∷ (3, 2, 0, 0) ∷ (3, 3, 0, 0) ∷ (3, 4, 0, 0) ∷ (3, 5, 0, 0)
           ∷ (4, 2, 9, 0) ∷ []);
     }
+    -- a slot first for what is live out, though it is not live in; the value keeps its number though the slot is freed
+    ∷ record {
+      asked = rewrites 384;
+      of = file undominated;
+      says = wordsOf (
+          (1, 4, 1, 0) ∷ (1, 8, 0, 0) ∷ (1, 8, 0, 0) ∷ (1, 4, 0, 0) ∷ (10, 4, 2, 0) ∷ (2, 0, 0, 0) ∷ (4, 2, 8, 0) ∷ (7, 1, 0, 0)
+          ∷ (2, 0, 1, 0) ∷ (4, 1, 8, 0) ∷ (11, 0, 4, 0) ∷ (12, 2, 0, 0) ∷ (14, 3, 2, 4) ∷ (4, 0, 9, 0) ∷ (6, 3, 0, 0) ∷ (4, 2, 8, 0)
+          ∷ (7, 2, 0, 0) ∷ (2, 0, 2, 0) ∷ (4, 0, 7, 0) ∷ (5, 0, 0, 0) ∷ (12, 1, 0, 0) ∷ (13, 0, 1, 0) ∷ (4, 2, 8, 0) ∷ (7, 1, 0, 0) ∷ []);
+    }
     -- an unreachable predecessor is not pushed
     ∷ record { asked = counts; of = file unreachable; says = 12 ∷ 0 ∷ 0 ∷ 2 ∷ 3 ∷ 1 ∷ [] }
     ∷ record { asked = rows 2; of = file unreachable; says = 0 ∷ 0 ∷ [] }
@@ -340,5 +355,5 @@ sheets =
     ∷ []
 
 pub sheets-hold : map (λ (x : Sheet). answer (x .asked) (x .of)) sheets ≡ map (λ (x : Sheet). x .says) sheets
-unfolding sheets p1 p2 p3 p4 p5 p6 p7 p8 p9 p9-across p10 p10-unreachable freed-twice spilled-result store-then-load parameter words unreachable two-edges decode recordAt records bytes followers follows function functionRecords reachable process listsOf isSpilled fileRefusals giveSlot freeSlot planned rewritten livenessVerdict livenessAnswer livenessIns livenessOuts listVerdict listAnswer listWords recordsOf rewritingVerdict rewritingAnswer rewritingOutput finalRecords programWrites
+unfolding sheets p1 p2 p3 p4 p5 p6 p7 p8 p9 p9-across p10 p10-unreachable freed-twice spilled-result store-then-load parameter words unreachable undominated two-edges decode recordAt records bytes followers follows function functionRecords reachable process listsOf isSpilled fileRefusals giveSlot freeSlot planned rewritten livenessVerdict livenessAnswer livenessIns livenessOuts listVerdict listAnswer listWords recordsOf rewritingVerdict rewritingAnswer rewritingOutput finalRecords programWrites
 sheets-hold = refl
