@@ -1,0 +1,1 @@
+// One record: its words and bytes, read and written.
