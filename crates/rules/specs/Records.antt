@@ -57,7 +57,7 @@ edgeArgument a b = cond (eqb a 0) (passes.Value b) (cond (eqb a 1) (passes.Retur
 unfoldable pub decode : ℕ → ℕ → ℕ → ℕ → Record
 decode k a b c =
     let zero₃ : Record → Record = λ r. cond (eqb b 0 && eqb c 0) r record′.Outside in
-    let zero₄ : Bool → Record → Record = λ t r. cond (t && eqb c 0) r record′.Outside in
+    let zero₄ : Bool → Record → Record = λ t r. cond (eqb c 0 && t) r record′.Outside in
     cond (eqb k 1) (zero₄ (leb 1 a && leb a 64 && leb b 1) (record′.Value a (eqb b 1)))
     (cond (eqb k 2) (zero₄ (leb a 1) (record′.Block (eqb a 1) b))
     (cond (eqb k 3) (zero₃ (record′.Parameter a))
@@ -110,21 +110,18 @@ recordAt s k =
 abbrev pub recordCount : List ℕ → ℕ
 recordCount s = length s / recordBytes
 
-abbrev pub recordsFrom : ℕ → List ℕ → List Record
-recordsFrom zero s = []
-recordsFrom (suc n) s = recordAt s 0 ∷ recordsFrom n (drop recordBytes s)
+-- what is read at the front of each of n records
+abbrev pub eachFrom : {A : Type 0} → (List ℕ → A) → ℕ → List ℕ → List A
+eachFrom front zero s = []
+eachFrom front (suc n) s = front s ∷ eachFrom front n (drop recordBytes s)
 
 -- the records of a file
 unfoldable pub records : List ℕ → List Record
-records s = recordsFrom (recordCount s) s
-
-abbrev pub kindsFrom : ℕ → List ℕ → List ℕ
-kindsFrom zero s = []
-kindsFrom (suc n) s = wordAt s 0 ∷ kindsFrom n (drop recordBytes s)
+records s = eachFrom (λ t. recordAt t 0) (recordCount s) s
 
 -- the first words of a file's records, whatever they are
-abbrev pub firstWords : List ℕ → List ℕ
-firstWords s = kindsFrom (recordCount s) s
+unfoldable pub firstWords : List ℕ → List ℕ
+firstWords s = eachFrom (λ t. wordAt t 0) (recordCount s) s
 
 -- the bytes of a record
 abbrev pub bytesOfRecord : Record → List ℕ

@@ -9,7 +9,7 @@ use lib.ListN.{length, getD, replicate}
 use lib.Dec.{eqb}
 use Rattle.rules.specs.Lists.{keep, orElse, concatMap, upFrom}
 use Rattle.rules.specs.Tree.{Function}
-use Rattle.rules.specs.Records.{wordAt, bytesOfWord, bit, decode, recordAt, records, bytes}
+use Rattle.rules.specs.Records.{wordAt, bytesOfWord, bit, decode, recordAt, records, firstWords, bytes}
 use Rattle.rules.specs.File.{followers, follows, function, functionRecords, functionIn}
 use Rattle.rules.specs.Graph.{reachable}
 use Rattle.rules.specs.Liveness.{State, process, listsOf, isSpilled}
@@ -355,5 +355,5 @@ sheets =
     ∷ []
 
 pub sheets-hold : map (λ (x : Sheet). answer (x .asked) (x .of)) sheets ≡ map (λ (x : Sheet). x .says) sheets
-unfolding sheets p1 p2 p3 p4 p5 p6 p7 p8 p9 p9-across p10 p10-unreachable freed-twice spilled-result store-then-load parameter words unreachable undominated two-edges decode recordAt records bytes followers follows function functionRecords reachable process listsOf isSpilled fileRefusals giveSlot freeSlot planned rewritten livenessVerdict livenessAnswer livenessIns livenessOuts listVerdict listAnswer listWords recordsOf rewritingVerdict rewritingAnswer rewritingOutput finalRecords programWrites
+unfolding sheets p1 p2 p3 p4 p5 p6 p7 p8 p9 p9-across p10 p10-unreachable freed-twice spilled-result store-then-load parameter words unreachable undominated two-edges decode recordAt records firstWords bytes followers follows function functionRecords reachable process listsOf isSpilled fileRefusals giveSlot freeSlot planned rewritten livenessVerdict livenessAnswer livenessIns livenessOuts listVerdict listAnswer listWords recordsOf rewritingVerdict rewritingAnswer rewritingOutput finalRecords programWrites
 sheets-hold = refl
