@@ -3,9 +3,11 @@ use Prim.Native.Nat.{ℕ}
 use mathlib.Core.Path.{_≡_, refl, sym, ap, _∙_}
 use mathlib.Core.Bool.{Bool, true, false, not, _&&_, _||_}
 use mathlib.Core.List.{List, [], _∷_, _++_, map, append-nil}
-use lib.Dec.{T, eqb, eqb→eq}
-use Rattle.rules.specs.Lists.{all, concatMap, has}
+use lib.Dec.{T, eqb}
+use Rattle.rules.specs.Lists.{all, concatMap}
 use Rattle.rules.specs.Records.{Words, encode, kind}
+use Rattle.lists.specs.Tests.{and-intro, and-left, and-right, chosen, left-out}
+use Rattle.lists.specs.Maps.{all-append, all-weaken}
 use Rattle.rules.specs.File.{Section, Cut, cut, ofKind}
 use Rattle.rules.specs.declared.EdgeArgument.{EdgeArgument}
 use Rattle.rules.specs.declared.EdgeArgument.the-variants as passes
@@ -16,32 +18,8 @@ use Rattle.rules.specs.declared.Record.the-variants as record′
 abbrev pub Kinds : (ℕ → Bool) → List Record → Type 0
 Kinds p rs = T (all (λ r. p (kind r)) rs)
 
-pub and-intro : (a b : Bool) → T a → T b → T (a && b)
-and-intro true b s t = t
-and-intro false b s t = absurd s
-
-pub and-left : (a b : Bool) → T (a && b) → T a
-and-left true b t = tt
-and-left false b t = t
-
-pub and-right : (a b : Bool) → T (a && b) → T b
-and-right true b t = t
-and-right false b t = absurd t
-
 pub kinds-append : (p : ℕ → Bool) (xs ys : List Record) → Kinds p xs → Kinds p ys → Kinds p (xs ++ ys)
-kinds-append p [] ys h k = k
-kinds-append p (x ∷ xs) ys h k =
-    and-intro (p (kind x)) (all (λ r. p (kind r)) (xs ++ ys)) (and-left (p (kind x)) (all (λ r. p (kind r)) xs) h)
-    (kinds-append p xs ys (and-right (p (kind x)) (all (λ r. p (kind r)) xs) h) k)
-
--- a test that every number of a list passes, at one of them
-pub passes-at : (p : ℕ → Bool) (ks : List ℕ) → T (all p ks) → (k : ℕ) → T (has k ks) → T (p k)
-passes-at p [] h k m = absurd m
-passes-at p (x ∷ ks) h k m = go (eqb k x) (eqb→eq k x) m (passes-at p ks (and-right (p x) (all p ks) h) k)
-  where
-    go : (b : Bool) → (T b → k ≡ x) → T (b || has k ks) → (T (has k ks) → T (p k)) → T (p k)
-    go true e _ _ = rw (e tt) (and-left (p x) (all p ks) h)
-    go false e m later = later m
+kinds-append p = all-append (λ r. p (kind r))
 
 module _ {A : Type 0} where
   pub kinds-map : (p : ℕ → Bool) (c : A → Record) → ((x : A) → T (p (kind (c x)))) → (xs : List A) → Kinds p (map c xs)
@@ -59,20 +37,7 @@ kind-edgeArgument p (passes.Returned _) h = h
 kind-edgeArgument p (passes.Exception _) h = h
 
 pub kinds-weaken : (p q : ℕ → Bool) → ((j : ℕ) → T (p j) → T (q j)) → (rs : List Record) → Kinds p rs → Kinds q rs
-kinds-weaken p q w [] h = tt
-kinds-weaken p q w (r ∷ rs) h =
-    and-intro (q (kind r)) (all (λ x. q (kind x)) rs) (w (kind r) (and-left (p (kind r)) (all (λ x. p (kind x)) rs) h))
-    (kinds-weaken p q w rs (and-right (p (kind r)) (all (λ x. p (kind x)) rs) h))
-
-module _ {A : Type 0} where
-  -- what a test chooses, where its answer is known
-  pub chosen : (b : Bool) (x y : A) → T b → elim b [ true ↦ x | false ↦ y ] ≡ x
-  chosen true x y h = refl
-  chosen false x y h = absurd h
-
-  pub left-out : (b : Bool) (x y : A) → T (not b) → elim b [ true ↦ x | false ↦ y ] ≡ y
-  left-out true x y h = absurd h
-  left-out false x y h = refl
+kinds-weaken p q w = all-weaken (λ r. p (kind r)) (λ r. q (kind r)) (λ r. w (kind r))
 
 -- the records of a kind in a list put together
 pub ofKind-append : (k : ℕ) (xs ys : List Record) → ofKind k (xs ++ ys) ≡ ofKind k xs ++ ofKind k ys
@@ -112,7 +77,7 @@ pub cut-front : (opens : ℕ → Bool) (xs rs : List Record) → Kinds (λ j. no
 cut-front opens [] rs h = refl
 cut-front opens (x ∷ xs) rs h =
     let c = cut opens (xs ++ rs) in
-    left-out (opens (kind x)) (record { front = []; sections = record { head = encode x; body = c .front } ∷ c .sections })
+    left-out (opens (kind x)) (record { front = []; sections = record { head = x; body = c .front } ∷ c .sections })
     (record { front = x ∷ c .front; sections = c .sections }) (and-left (not (opens (kind x))) (all (λ r. not (opens (kind r))) xs) h)
     ∙ ap (λ (d : Cut). record { front = x ∷ d .front; sections = d .sections })
     (cut-front opens xs rs (and-right (not (opens (kind x))) (all (λ r. not (opens (kind r))) xs) h))
@@ -124,19 +89,19 @@ cut-closed opens xs h =
 -- a record that opens a part, with a body that opens nothing, is a section
 pub cut-section : (opens : ℕ → Bool) (h : Record) (body rs : List Record) → T (opens (kind h)) → Kinds (λ j. not (opens j)) body
     → cut opens (h ∷ (body ++ rs))
-    ≡ record { front = []; sections = record { head = encode h; body = body ++ cut opens rs .front } ∷ cut opens rs .sections }
+    ≡ record { front = []; sections = record { head = h; body = body ++ cut opens rs .front } ∷ cut opens rs .sections }
 cut-section opens h body rs o k =
     let c = cut opens (body ++ rs) in
-    chosen (opens (kind h)) (record { front = []; sections = record { head = encode h; body = c .front } ∷ c .sections })
+    chosen (opens (kind h)) (record { front = []; sections = record { head = h; body = c .front } ∷ c .sections })
     (record { front = h ∷ c .front; sections = c .sections }) o
-    ∙ ap (λ (d : Cut). record { front = []; sections = record { head = encode h; body = d .front } ∷ d .sections }) (cut-front opens body rs k)
+    ∙ ap (λ (d : Cut). record { front = []; sections = record { head = h; body = d .front } ∷ d .sections }) (cut-front opens body rs k)
 
 -- the parts of a list of things, each of whose records opens one part
 pub cut-sections : {A : Type 0} (opens : ℕ → Bool) (head : A → Record) (body : A → List Record)
     → ((x : A) → T (opens (kind (head x)))) → ((x : A) → Kinds (λ j. not (opens j)) (body x)) → (xs : List A)
-    → cut opens (concatMap (λ x. head x ∷ body x) xs) ≡ record { front = []; sections = map (λ x. record { head = encode (head x); body = body x }) xs }
+    → cut opens (concatMap (λ x. head x ∷ body x) xs) ≡ record { front = []; sections = map (λ x. record { head = head x; body = body x }) xs }
 cut-sections opens head body o k [] = refl
 cut-sections opens head body o k (x ∷ xs) =
     cut-section opens (head x) (body x) (concatMap (λ y. head y ∷ body y) xs) (o x) (k x)
-    ∙ ap (λ (d : Cut). record { front = []; sections = record { head = encode (head x); body = body x ++ d .front } ∷ d .sections }) (cut-sections opens head body o k xs)
-    ∙ ap (λ (t : List Record). record { front = []; sections = record { head = encode (head x); body = t } ∷ map (λ y. record { head = encode (head y); body = body y }) xs }) (append-nil (body x))
+    ∙ ap (λ (d : Cut). record { front = []; sections = record { head = head x; body = body x ++ d .front } ∷ d .sections }) (cut-sections opens head body o k xs)
+    ∙ ap (λ (t : List Record). record { front = []; sections = record { head = head x; body = t } ∷ map (λ y. record { head = head y; body = body y }) xs }) (append-nil (body x))

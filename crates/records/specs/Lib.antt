@@ -1,3 +1,5 @@
 pub mod Kinds
 pub mod Places
 pub mod Reading
+pub mod InOrder
+pub mod Parts

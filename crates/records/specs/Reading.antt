@@ -7,12 +7,14 @@ use lib.Dec.{T, eqb}
 use Rattle.rules.specs.Lists.{all, concatMap}
 use Rattle.rules.specs.Tree.{Value, Edge, MapEntry, Instruction, Item, instruction, slotAddress, store, load, jump, Block, Function}
 use Rattle.rules.specs.Records.{Words, encode, kind, bit, isSafepoint, isTerminator, edgeArgument}
-use Rattle.rules.specs.File.{Section, Cut, cut, ofKind, named, edgesOf, instructionOf, firstEdge, itemOf, opensItem, blockOf, function, edgeRecords, itemRecords, blockRecords, functionRecords}
+use Rattle.rules.specs.File.{Section, Cut, cut, ofKind, named, edgeOf, edgesOf, instructionOf, firstEdge, itemOf, opensItem, blockOf, function, edgeRecords, itemRecords, blockRecords, functionRecords}
 use Rattle.rules.specs.declared.EdgeArgument.{EdgeArgument}
 use Rattle.rules.specs.declared.EdgeArgument.the-variants as passes
 use Rattle.rules.specs.declared.Record.{Record}
 use Rattle.rules.specs.declared.Record.the-variants as record′
-use Rattle.records.specs.Kinds.{Kinds, and-intro, and-left, and-right, passes-at, kinds-append, kinds-map, kinds-concatMap, kinds-weaken, kind-edgeArgument, ofKind-append, ofKind-none, ofKind-map, ofKind-skip, ofKind-stop, cut-front, cut-closed, cut-section, cut-sections}
+use Rattle.lists.specs.Tests.{and-intro, and-left, and-right, passes-at}
+use Rattle.lists.specs.Maps.{map-back, concatMap-same}
+use Rattle.records.specs.Kinds.{Kinds, kinds-append, kinds-map, kinds-concatMap, kinds-weaken, kind-edgeArgument, ofKind-append, ofKind-none, ofKind-map, ofKind-skip, ofKind-stop, cut-front, cut-closed, cut-section, cut-sections}
 
 -- a flag is read back from its word
 bit-back : (b : Bool) → eqb (bit b) 1 ≡ b
@@ -31,11 +33,6 @@ terminator-back true false = refl
 terminator-back false true = refl
 terminator-back false false = refl
 
--- a list is read back where each member is
-map-back : {A B : Type 0} (g : B → A) (e : A → B) → ((x : A) → g (e x) ≡ x) → (xs : List A) → map g (map e xs) ≡ xs
-map-back g e h [] = refl
-map-back g e h (x ∷ xs) = ap₂ (λ y ys. y ∷ ys) (h x) (map-back g e h xs)
-
 -- the numbers that records of one kind name
 named-back : (k : ℕ) (c : ℕ → Record) → ((x : ℕ) → T (eqb (kind (c x)) k)) → ((x : ℕ) → encode (c x) .second ≡ x) → (xs : List ℕ) → named k (map c xs) ≡ xs
 named-back k c h w xs = ap (map (λ (x : Words). x .second)) (ofKind-map k c h xs) ∙ map-back (λ (x : Words). x .second) (λ x. encode (c x)) w xs
@@ -44,10 +41,6 @@ edgeArgument-back : (x : EdgeArgument) → edgeArgument (encode (record′.EdgeA
 edgeArgument-back (passes.Value _) = refl
 edgeArgument-back (passes.Returned _) = refl
 edgeArgument-back (passes.Exception _) = refl
-
--- the edge that a section is
-abbrev edgeOf : Section → Edge
-edgeOf s = record { target = s .head .second; arguments = map (λ w. edgeArgument (w .second) (w .third)) (ofKind 8 (s .body)) }
 
 -- neither an edge nor an edge argument
 abbrev neither : ℕ → Bool
@@ -206,7 +199,7 @@ module _ (i : Instruction) where
   abbrev instructionRecord : Record
   instructionRecord = record′.Instruction (i .safepoint) (i .terminator) (i .tag)
 
-  instruction-back : instructionOf (record { head = encode instructionRecord; body = bodyRecords i }) ≡ i
+  instruction-back : instructionOf (record { head = instructionRecord; body = bodyRecords i }) ≡ i
   instruction-back =
       λ k. record {
         safepoint = safepoint-back (i .safepoint) (i .terminator) k;
@@ -274,16 +267,12 @@ jump-back e =
     ap (λ (rs : List Record). jump (firstEdge (edgesOf rs))) (sym (append-nil (edgeRecords e)) ∙ sym (append-nil (edgeRecords e ++ [])))
     ∙ ap (λ (es : List Edge). jump (firstEdge es)) (edges-back (e ∷ []) [] tt .0)
 
-item-back : (x : Item) → itemOf (record { head = encode (itemHead x); body = itemBody x }) ≡ x
+item-back : (x : Item) → itemOf (record { head = itemHead x; body = itemBody x }) ≡ x
 item-back (instruction i) = ap instruction (instruction-back i)
 item-back (slotAddress _ _) = refl
 item-back (store _ _) = refl
 item-back (load _ _ _) = refl
 item-back (jump e) = jump-back e
-
-concatMap-same : {A B : Type 0} (g h : A → List B) → ((x : A) → g x ≡ h x) → (xs : List A) → concatMap g xs ≡ concatMap h xs
-concatMap-same g h e [] = refl
-concatMap-same g h e (x ∷ xs) = ap₂ (λ y ys. y ++ ys) (e x) (concatMap-same g h e xs)
 
 -- a block's records: the one that opens it, and its body
 abbrev blockHead : Block → Record
@@ -303,7 +292,7 @@ blockBody-kinds p h k b =
 
 -- an item's section
 abbrev itemSection : Item → Section
-itemSection x = record { head = encode (itemHead x); body = itemBody x }
+itemSection x = record { head = itemHead x; body = itemBody x }
 
 items-back : (b : Block) → map itemOf (cut opensItem (blockBody b) .sections) ≡ b .items
 items-back b =
@@ -320,7 +309,7 @@ parameters-back b =
     (ofKind-stop 3 (parameterRecords b) (concatMap itemRecords (b .items)) (items-kinds (λ j. not (eqb j 3)) tt tt (b .items)))
     ∙ named-back 3 record′.Parameter (λ _. tt) (λ _. refl) (b .parameters)
 
-block-back : (b : Block) → blockOf (record { head = encode (blockHead b); body = blockBody b }) ≡ b
+block-back : (b : Block) → blockOf (record { head = blockHead b; body = blockBody b }) ≡ b
 block-back b =
     λ k. record { cold = bit-back (b .cold) k; number = b .number; parameters = parameters-back b k; items = items-back b k }
 
@@ -373,7 +362,7 @@ module _ (f : Function) where
       ∙ ap (λ (c : Cut). map blockOf (c .sections)) (cut-front (eqb 2) slotRecords blocksRecords (slot-kinds (λ j. not (eqb 2 j)) tt))
       ∙ ap (λ (c : Cut). map blockOf (c .sections))
       (cut-sections (eqb 2) blockHead blockBody (λ _. tt) (blockBody-kinds (λ j. not (eqb 2 j)) tt tt) (f .blocks))
-      ∙ map-back blockOf (λ b. record { head = encode (blockHead b); body = blockBody b }) block-back (f .blocks)
+      ∙ map-back blockOf (λ b. record { head = blockHead b; body = blockBody b }) block-back (f .blocks)
 
   -- reading what was encoded gives the same tree
   pub function-back : function (functionRecords f) ≡ f

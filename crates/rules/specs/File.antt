@@ -38,7 +38,7 @@ ordered p (r ∷ rs) = follows p (kind r) && ordered (kind r) rs
 
 -- a record that opens a part of the file, and the records of that part
 pub record Section : Type 0 where
-  pub head : Words
+  pub head : Record
   pub body : List Record
 
 -- records cut in front of each that opens a part
@@ -51,7 +51,7 @@ cut opens [] = record { front = []; sections = [] }
 cut opens (r ∷ rs) =
     let c = cut opens rs in
     elim (opens (kind r)) [
-      | true ↦ record { front = []; sections = record { head = encode r; body = c .front } ∷ c .sections }
+      | true ↦ record { front = []; sections = record { head = r; body = c .front } ∷ c .sections }
       | false ↦ record { front = r ∷ c .front; sections = c .sections }
     ]
 
@@ -65,26 +65,28 @@ abbrev pub named : ℕ → List Record → List ℕ
 named k rs = map (λ w. w .second) (ofKind k rs)
 
 -- Records to a tree. Where they are out of order refusal 4 is given, and nothing asks what tree they are.
-abbrev pub edgesOf : List Record → List Edge
-edgesOf rs =
-    map
-    (λ s. record {
-      target = s .head .second;
+abbrev pub edgeOf : Section → Edge
+edgeOf s =
+    record {
+      target = encode (s .head) .second;
       arguments = map (λ w. edgeArgument (w .second) (w .third)) (ofKind 8 (s .body));
-    })
-    (cut (eqb 7) rs .sections)
+    }
+
+abbrev pub edgesOf : List Record → List Edge
+edgesOf rs = map edgeOf (cut (eqb 7) rs .sections)
 
 abbrev pub instructionOf : Section → Instruction
 instructionOf s =
+    let w = encode (s .head) in
     record {
-      safepoint = isSafepoint (s .head .second);
-      terminator = isTerminator (s .head .second);
-      tag = s .head .third;
+      safepoint = isSafepoint (w .second);
+      terminator = isTerminator (w .second);
+      tag = w .third;
       arguments = named 6 (s .body);
       results = named 5 (s .body);
       edges = edgesOf (s .body);
       contexts = named 9 (s .body);
-      entries = map (λ w. record { slot = w .second; size = w .third }) (ofKind 11 (s .body));
+      entries = map (λ x. record { slot = x .second; size = x .third }) (ofKind 11 (s .body));
     }
 
 -- a jump leads along the edge behind it
@@ -94,11 +96,11 @@ firstEdge (e ∷ _) = e
 
 abbrev pub itemOf : Section → Item
 itemOf s =
-    let k = s .head .kind in
-    cond (eqb k 4) (instruction (instructionOf s))
-    (cond (eqb k 12) (slotAddress (s .head .second) (s .head .third))
-    (cond (eqb k 13) (store (s .head .second) (s .head .third))
-    (cond (eqb k 14) (load (s .head .second) (s .head .third) (s .head .fourth))
+    let w = encode (s .head) in
+    cond (eqb (w .kind) 4) (instruction (instructionOf s))
+    (cond (eqb (w .kind) 12) (slotAddress (w .second) (w .third))
+    (cond (eqb (w .kind) 13) (store (w .second) (w .third))
+    (cond (eqb (w .kind) 14) (load (w .second) (w .third) (w .fourth))
     (jump (firstEdge (edgesOf (s .body)))))))
 
 abbrev pub opensItem : ℕ → Bool
@@ -106,9 +108,10 @@ opensItem k = has k (4 ∷ 12 ∷ 13 ∷ 14 ∷ 15 ∷ [])
 
 abbrev pub blockOf : Section → Block
 blockOf s =
+    let w = encode (s .head) in
     record {
-      cold = eqb (s .head .second) 1;
-      number = s .head .third;
+      cold = eqb (w .second) 1;
+      number = w .third;
       parameters = named 3 (s .body);
       items = map itemOf (cut opensItem (s .body) .sections);
     }

@@ -1,0 +1,59 @@
+-- Tests: what a test that passed says of its parts, and what it chooses.
+use Prim.Native.Nat.{ℕ}
+use mathlib.Core.Path.{_≡_, refl, sym}
+use mathlib.Core.Bool.{Bool, true, false, not, _&&_, _||_, cond}
+use mathlib.Core.List.{List, [], _∷_}
+use lib.Dec.{T, T-not, not-T, eqb, eqb→eq, eqb-refl}
+use Rattle.rules.specs.Lists.{all, has}
+
+pub and-intro : (a b : Bool) → T a → T b → T (a && b)
+and-intro true b s t = t
+and-intro false b s t = absurd s
+
+pub and-left : (a b : Bool) → T (a && b) → T a
+and-left true b t = tt
+and-left false b t = t
+
+pub and-right : (a b : Bool) → T (a && b) → T b
+and-right true b t = t
+and-right false b t = absurd t
+
+-- what an alternative leaves when its first part does not hold
+pub or-then : (a b : Bool) → T (not a || b) → T a → T b
+or-then true b h t = h
+or-then false b h t = absurd t
+
+-- a test that passed is true
+pub is-true : (b : Bool) → T b → b ≡ true
+is-true true t = refl
+is-true false t = absurd t
+
+pub is-false : (b : Bool) → T (not b) → b ≡ false
+is-false true t = absurd t
+is-false false t = refl
+
+pub eqb-swap : (m n : ℕ) → T (eqb m n) → T (eqb n m)
+eqb-swap m n t = rw (eqb→eq m n t) (eqb-refl n)
+
+-- two numbers differ where one passes a test that the other does not
+pub differ : (p : ℕ → Bool) (j k : ℕ) → T (p j) → T (not (p k)) → T (not (eqb j k))
+differ p j k h n = not-T (eqb j k) (λ t. T-not (p k) n (rw (eqb→eq j k t) at h))
+
+module _ {A : Type 0} where
+  -- what a test chooses, where its answer is known
+  pub chosen : (b : Bool) (x y : A) → T b → elim b [ true ↦ x | false ↦ y ] ≡ x
+  chosen true x y h = refl
+  chosen false x y h = absurd h
+
+  pub left-out : (b : Bool) (x y : A) → T (not b) → elim b [ true ↦ x | false ↦ y ] ≡ y
+  left-out true x y h = absurd h
+  left-out false x y h = refl
+
+-- a test that every number of a list passes, at one of them
+pub passes-at : (p : ℕ → Bool) (ks : List ℕ) → T (all p ks) → (k : ℕ) → T (has k ks) → T (p k)
+passes-at p [] h k m = absurd m
+passes-at p (x ∷ ks) h k m = go (eqb k x) (eqb→eq k x) m (passes-at p ks (and-right (p x) (all p ks) h) k)
+  where
+    go : (b : Bool) → (T b → k ≡ x) → T (b || has k ks) → (T (has k ks) → T (p k)) → T (p k)
+    go true e _ _ = rw (e tt) (and-left (p x) (all p ks) h)
+    go false e m later = later m
