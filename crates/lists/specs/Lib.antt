@@ -1,2 +1,6 @@
 pub mod Tests
+pub mod Sets
+pub mod Members
 pub mod Maps
+pub mod Counts
+pub mod Lack

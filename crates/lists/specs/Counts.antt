@@ -1,0 +1,19 @@
+-- How many members pass a test, one member at a time.
+use Prim.Native.Nat.{ℕ, suc, _+_, _≤_}
+use mathlib.Core.Path.{_≡_, refl, sym}
+use mathlib.Core.Bool.{Bool, true, false}
+use mathlib.Core.List.{List, _∷_}
+use native.Mathlib.Omega.{arith}
+use Rattle.rules.specs.Lists.{count}
+use Rattle.rules.specs.Records.{bit}
+
+pub bit-at-most : (b : Bool) → bit b ≤ 1
+bit-at-most true = omega arith
+bit-at-most false = omega arith
+
+pub count-more : {A : Type 0} (p : A → Bool) (x : A) (xs : List A) → count p (x ∷ xs) ≡ bit (p x) + count p xs
+count-more p x xs = go (p x)
+  where
+    go : (b : Bool) → elim b [ true ↦ suc (count p xs) | false ↦ count p xs ] ≡ bit b + count p xs
+    go true = omega arith
+    go false = omega arith
