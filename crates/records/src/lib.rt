@@ -6,7 +6,7 @@ ghost use lib.Dec.{eqb, leb};
 ghost use lib.ListN.{length};
 ghost use Rattle.rules.specs.Limits.{recordBytes};
 ghost use Rattle.rules.specs.Lists.{has};
-ghost use Rattle.rules.specs.Records.{wordAt, slotSizes, log2, edgeArgument, decode, recordAt};
+ghost use Rattle.rules.specs.Records.{wordAt, slotSizes, log2, edgeArgument, decode, kind, recordAt};
 ghost use Rattle.rules.specs.declared.Record.the-variants.{Outside};
 use rules::EdgeArgument;
 use rules::RECORD_BYTES;
@@ -162,4 +162,43 @@ pub fn record_at(s: &[u8], k: usize) -> Record
         word_at(s, i + 8),
         word_at(s, i + 12),
     )
+}
+
+// The kind of a record, 0 for one outside the table.
+pub fn kind_of(r: Record) -> u32
+    ensures { λ k. ⌜ k ≡ kind r ⌝ }
+{
+    match r {
+        Record::Value { size: _, marked: _ } => 1,
+        Record::Block { cold: _, number: _ } => 2,
+        Record::Parameter(_) => 3,
+        Record::Instruction {
+            safepoint: _,
+            terminator: _,
+            tag: _,
+        } => 4,
+        Record::Result(_) => 5,
+        Record::Argument(_) => 6,
+        Record::Edge(_) => 7,
+        Record::EdgeArgument(x) => match x {
+            EdgeArgument::Value(_) => 8,
+            EdgeArgument::Returned(_) => 8,
+            EdgeArgument::Exception(_) => 8,
+        },
+        Record::Context(_) => 9,
+        Record::Slot(_) => 10,
+        Record::MapEntry { slot: _, size: _ } => 11,
+        Record::SlotAddress { result: _, slot: _ } => 12,
+        Record::Store {
+            value: _,
+            address: _,
+        } => 13,
+        Record::Load {
+            result: _,
+            address: _,
+            size: _,
+        } => 14,
+        Record::Jump => 15,
+        Record::Outside => 0,
+    }
 }

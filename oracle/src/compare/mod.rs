@@ -1,0 +1,11 @@
+//! One party held against another: the module against the decision, and any party's services against the decision's.
+
+mod against_module;
+mod batch;
+mod shrink;
+mod whole_answers;
+
+pub use against_module::{Met, against_module};
+pub use batch::{Tally, batch, services_batch};
+pub use shrink::shrink;
+pub use whole_answers::whole_answers;

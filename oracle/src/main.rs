@@ -1,0 +1,144 @@
+//! The oracle's commands: compare, sheets, fixed.
+
+use oracle::compare::{Met, against_module, batch};
+use oracle::decision::Decision;
+use oracle::fixed;
+use oracle::record::parse;
+use oracle::sheets::{SHEETS, decided, from_module};
+use oracle::source;
+use std::fs;
+use std::process::ExitCode;
+use std::time::Instant;
+
+const USAGE: &str = "\
+oracle compare [--files N] [--seed S]   the source module against the plain decision on N generated files
+oracle sheets                           both on document 01's sheets P1 to P11
+oracle fixed --write | --check          makes the fixed list, or makes it again, compares and replays it";
+
+/// Where the list stands, from the package's folder or from the repository's.
+const LISTS: [&str; 2] = ["fixed/answers.txt", "oracle/fixed/answers.txt"];
+
+fn main() -> ExitCode {
+    let arguments: Vec<String> = std::env::args().skip(1).collect();
+    let arguments: Vec<&str> = arguments.iter().map(String::as_str).collect();
+    let good = match arguments.as_slice() {
+        _ if !source::WITNESSED => Err("built without the feature `witness`: good for timing only".to_string()),
+        ["compare", options @ ..] => compare(options),
+        ["sheets"] => sheets(),
+        ["fixed", "--write"] => write_fixed(),
+        ["fixed", "--check"] => check_fixed(),
+        _ => Err(USAGE.to_string()),
+    };
+    match good {
+        Ok(()) => ExitCode::SUCCESS,
+        Err(words) => {
+            eprintln!("{words}");
+            ExitCode::FAILURE
+        }
+    }
+}
+
+/// How many files, and the seed.
+fn files_and_seed(options: &[&str]) -> Result<(u64, u64), String> {
+    let (mut files, mut seed) = (10_000, 1);
+    for option in options.chunks(2) {
+        match *option {
+            ["--files", number] => files = number.parse().map_err(|_| USAGE)?,
+            ["--seed", number] => seed = number.parse().map_err(|_| USAGE)?,
+            _ => return Err(USAGE.to_string()),
+        }
+    }
+    Ok((files, seed))
+}
+
+fn compare(options: &[&str]) -> Result<(), String> {
+    let (files, seed) = files_and_seed(options)?;
+    match (source::PRESENT, cfg!(debug_assertions)) {
+        (false, _) => println!("{}", source::SKIPPED),
+        (true, true) => println!("the source module is there, its debug assertions are on"),
+        (true, false) => println!("the source module is there, its debug assertions are off"),
+    }
+    let start = Instant::now();
+    let tally = batch(seed, files);
+    let seconds = start.elapsed().as_secs_f64();
+    print!("{tally}");
+    let accepted = tally.accepted();
+    println!(
+        "{files} files of seed {seed} in {seconds:.1} s; {:.0} accepted files a minute",
+        accepted as f64 / seconds * 60.0
+    );
+    tally.differences.iter().take(20).for_each(|difference| println!("{difference}"));
+    match tally.differences.len() {
+        0 if source::PRESENT => println!("no difference but the landing's cold word, as listed in docs/DIFFERENCES.md"),
+        0 => println!("decided without a comparison"),
+        count => return Err(format!("{count} differences")),
+    }
+    Ok(())
+}
+
+fn sheets() -> Result<(), String> {
+    let mut failed = Vec::new();
+    for sheet in &SHEETS {
+        let file = parse(sheet.file);
+        let by_decision = (sheet.holds)(&decided(&file));
+        let by_module = from_module(&file).map(|facts| (sheet.holds)(&facts));
+        let module = match by_module {
+            Some(true) => "holds",
+            Some(false) => "FAILS",
+            None => "not run",
+        };
+        let decision = if by_decision { "holds" } else { "FAILS" };
+        println!("{:22} decision {decision}   module {module:8} {}", sheet.name, sheet.says);
+        if !by_decision || by_module == Some(false) {
+            failed.push(sheet.name);
+        }
+    }
+    if !source::PRESENT {
+        println!("{}", source::SKIPPED);
+    }
+    if failed.is_empty() { Ok(()) } else { Err(format!("failed: {}", failed.join(", "))) }
+}
+
+fn list_path() -> Result<&'static str, String> {
+    let stands = |path: &&str| fs::metadata(path.trim_end_matches("answers.txt")).is_ok();
+    LISTS.into_iter().find(stands).ok_or_else(|| "run this in the repository or in oracle/".to_string())
+}
+
+/// Every file of the list once more by the module, so that the list is its answer too.
+fn fixed_against_module() -> Result<(), String> {
+    let (mut decision, mut module) = (Decision::default(), source::Module::default());
+    let mut ran = 0;
+    for case in fixed::cases() {
+        for pointer_size in [8, 4] {
+            let met = against_module(&mut decision, &mut module, &case.file, pointer_size)
+                .map_err(|difference| format!("{}: {difference}", case.note))?;
+            ran += u64::from(!matches!(met, Met::Refused(_) | Met::Skipped));
+        }
+    }
+    match source::PRESENT {
+        true => println!("the source module says the same: {ran} runs, two for each file that it can run"),
+        false => println!("{}", source::SKIPPED),
+    }
+    Ok(())
+}
+
+fn write_fixed() -> Result<(), String> {
+    let path = list_path()?;
+    fixed_against_module()?;
+    let list = fixed::write();
+    println!("{path}: {} files, {} bytes", fixed::cases().len(), list.len());
+    fs::write(path, list).map_err(|error| format!("{path}: {error}"))
+}
+
+fn check_fixed() -> Result<(), String> {
+    let path = list_path()?;
+    let list = fs::read_to_string(path).map_err(|error| format!("{path}: {error}"))?;
+    let replayed = fixed::replay(&list, &mut Decision::default())?;
+    println!("replayed: {replayed:?}");
+    fixed_against_module()?;
+    if fixed::write() != list {
+        return Err(format!("{path} made again is not the same bytes"));
+    }
+    println!("{path} made again is the same bytes");
+    Ok(())
+}
