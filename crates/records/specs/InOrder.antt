@@ -1,16 +1,13 @@
 -- The parts of a file's function, each in file order, are the file's records of their kind, if the file is in order.
-use Prim.Native.Nat.{ℕ, zero, suc}
-use mathlib.Core.Path.{_≡_, refl, sym, ap, ap₂, _∙_}
-use mathlib.Core.Bool.{Bool, true, false, not, _&&_, _||_, cond}
-use mathlib.Core.List.{List, [], _∷_, _++_, map, append-nil, append-assoc}
+use Prim.Native.Nat.{ℕ}
+use mathlib.Core.Path.{_≡_, refl, ap}
+use mathlib.Core.Bool.{Bool, true, false, not, _&&_, _||_}
+use mathlib.Core.List.{List, [], _∷_, _++_}
 use lib.ListN.{getD}
-use lib.Dec.{T, eqb, eqb→eq}
+use lib.Dec.{T}
 use Rattle.rules.specs.Lists.{all, concatMap, has}
-use Rattle.rules.specs.Tree.{Value, Edge, MapEntry, Instruction, Item, instruction, slotAddress, store, load, jump, Block, Function}
-use Rattle.rules.specs.Records.{Words, encode, kind, edgeArgument}
-use Rattle.rules.specs.File.{followers, follows, ordered, Section, Cut, cut, ofKind, named, edgeOf, edgesOf, instructionOf, itemOf, opensItem, blockOf, function}
-use Rattle.rules.specs.Graph.{instructionsAmong, instructionsOf}
-use Rattle.rules.specs.declared.EdgeArgument.{EdgeArgument}
+use Rattle.rules.specs.Records.{kind}
+use Rattle.rules.specs.File.{followers, follows, ordered, Section, Cut, cut}
 use Rattle.rules.specs.declared.Record.{Record}
 use Rattle.lists.specs.Tests.{and-intro, and-left, and-right, or-then, passes-at}
 use Rattle.records.specs.Kinds.{Kinds}

@@ -1,14 +1,14 @@
 -- Lists of records by their kinds: what picking a kind out, and cutting in front of a kind, give on a list put together.
 use Prim.Native.Nat.{ℕ}
 use mathlib.Core.Path.{_≡_, refl, sym, ap, _∙_}
-use mathlib.Core.Bool.{Bool, true, false, not, _&&_, _||_}
+use mathlib.Core.Bool.{Bool, true, false, not}
 use mathlib.Core.List.{List, [], _∷_, _++_, map, append-nil}
 use lib.Dec.{T, eqb}
 use Rattle.rules.specs.Lists.{all, concatMap}
 use Rattle.rules.specs.Records.{Words, encode, kind}
 use Rattle.lists.specs.Tests.{and-intro, and-left, and-right, chosen, left-out}
 use Rattle.lists.specs.Maps.{all-append, all-weaken}
-use Rattle.rules.specs.File.{Section, Cut, cut, ofKind}
+use Rattle.rules.specs.File.{Cut, cut, ofKind}
 use Rattle.rules.specs.declared.EdgeArgument.{EdgeArgument}
 use Rattle.rules.specs.declared.EdgeArgument.the-variants as passes
 use Rattle.rules.specs.declared.Record.{Record}

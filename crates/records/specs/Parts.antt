@@ -1,20 +1,20 @@
 -- The parts of a file's function, each in file order, are the file's records of their kind, where the file is in order.
 use Prim.Native.Nat.{ℕ}
-use mathlib.Core.Path.{_≡_, refl, sym, ap, ap₂, _∙_}
-use mathlib.Core.Bool.{Bool, true, false, not, _&&_, _||_, cond}
-use mathlib.Core.List.{List, [], _∷_, _++_, map, append-nil, append-assoc}
-use lib.Dec.{T, eqb, leb, eqb→eq, eqb-refl}
+use mathlib.Core.Path.{_≡_, refl, sym, ap, _∙_}
+use mathlib.Core.Bool.{Bool, true, false, not, _&&_, _||_}
+use mathlib.Core.List.{List, [], _∷_, _++_, map}
+use lib.Dec.{T, eqb, eqb→eq}
 use Rattle.rules.specs.Lists.{all, concatMap, has}
-use Rattle.rules.specs.Tree.{Value, Edge, MapEntry, Instruction, Item, instruction, Block, Function}
+use Rattle.rules.specs.Tree.{Edge, Instruction, Block}
 use Rattle.rules.specs.Records.{Words, encode, kind, edgeArgument}
-use Rattle.rules.specs.File.{followers, ordered, Section, Cut, cut, ofKind, named, edgeOf, edgesOf, instructionOf, itemOf, opensItem, blockOf, function}
+use Rattle.rules.specs.File.{followers, ordered, Section, cut, ofKind, named, edgeOf, edgesOf, instructionOf, itemOf, opensItem, blockOf, function}
 use Rattle.rules.specs.Graph.{instructionsAmong, instructionsOf}
 use Rattle.rules.specs.Refusals.{allInstructions, allEdges}
 use Rattle.rules.specs.declared.EdgeArgument.{EdgeArgument}
 use Rattle.rules.specs.declared.Record.{Record}
 use Rattle.lists.specs.Tests.{and-left, and-right, or-then, is-true, eqb-swap, differ, chosen, left-out, passes-at}
-use Rattle.lists.specs.Maps.{map-map, concatMap-map, map-concatMap, concatMap-concatMap, concatMap-where, concatMap-same, all-weaken, all-and}
-use Rattle.records.specs.Kinds.{Kinds, kinds-weaken, ofKind-append, ofKind-none, ofKind-skip}
+use Rattle.lists.specs.Maps.{map-map, concatMap-map, map-concatMap, concatMap-concatMap, concatMap-where, all-weaken, all-and}
+use Rattle.records.specs.Kinds.{Kinds, kinds-weaken, ofKind-append, ofKind-skip}
 use Rattle.records.specs.InOrder.{chain, ordered-chain, whole, Sections, cut-keeps, cut-joins, opened, cut-opened, chained, cut-chained, cut-kinds, keptBy, chain-good}
 
 -- RECORDS OF A KIND, BY SECTIONS. Where no section is opened by the kind, and the front has none.

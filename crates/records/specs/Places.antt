@@ -1,9 +1,10 @@
 -- Records by place: what a loop over a file sees in front of it.
-use Prim.Native.Nat.{ℕ, zero, suc, _+_, _-_, _*_, _≤_, _<_}
-use mathlib.Core.Path.{_≡_, refl, ap, _∙_}
+use Prim.Native.Nat.{ℕ, suc, _+_, _-_, _*_, _<_}
+use mathlib.Core.Path.{_≡_, ap, _∙_}
 use mathlib.Core.List.{List, [], _∷_}
 use native.Mathlib.Omega.{arith}
-use lib.ListN.{length, getD, drop}
+use native.Mathlib.Numerals.{add-one}
+use lib.ListN.{drop}
 use lib.Seq.{getD-drop, drop-drop}
 use Rattle.rules.specs.Limits.{recordBytes}
 use Rattle.rules.specs.Records.{wordAt, recordAt, recordCount, eachFrom, records, firstWords}
@@ -60,6 +61,10 @@ module _ (s : List ℕ) where
   pub rest-more : (i : ℕ) → i < recordCount s → rest s i ≡ recordAt s i ∷ rest s (suc i)
   rest-more i h = restBy-more (λ t. recordAt t 0) s i h ∙ ap (λ r. r ∷ rest s (suc i)) (recordAt-drop i s)
 
+  -- the same by the code's sum
+  pub rest-next : (i : ℕ) → i < recordCount s → rest s i ≡ recordAt s i ∷ rest s (i + 1)
+  rest-next i h = rw (add-one i) (rest-more i h)
+
   pub rest-all : rest s 0 ≡ records s
   unfolding records
   rest-all = restBy-all (λ t. recordAt t 0) s
@@ -68,6 +73,9 @@ module _ (s : List ℕ) where
   firstWords-more i h =
       let e : recordBytes * i + 0 ≡ recordBytes * i = omega arith in
       restBy-more (λ t. wordAt t 0) s i h ∙ ap (λ w. w ∷ firstWordsRest s (suc i)) (wordAt-drop (recordBytes * i) 0 s ∙ ap (wordAt s) e)
+
+  pub firstWords-next : (i : ℕ) → i < recordCount s → firstWordsRest s i ≡ wordAt s (recordBytes * i) ∷ firstWordsRest s (i + 1)
+  firstWords-next i h = rw (add-one i) (firstWords-more i h)
 
   pub firstWords-all : firstWordsRest s 0 ≡ firstWords s
   unfolding firstWords

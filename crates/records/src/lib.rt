@@ -166,7 +166,7 @@ pub fn record_at(s: &[u8], k: usize) -> Record
 
 // The kind of a record, 0 for one outside the table.
 pub fn kind_of(r: Record) -> u32
-    ensures { λ k. ⌜ k ≡ kind r ⌝ }
+    ensures { λ k. ⌜ (k ≡ kind r) × (k < 16) ⌝ }
 {
     match r {
         Record::Value { size: _, marked: _ } => 1,

@@ -3,19 +3,19 @@ use Prim.Native.Nat.{ℕ}
 use mathlib.Core.Path.{_≡_}
 use mathlib.Core.Bool.{Bool, true}
 use mathlib.Core.List.{List, [], _∷_, _++_, List·Memᴰ}
-use lib.Dec.{T, ltb}
-use Rattle.rules.specs.Lists.{all, concatMap, nothing}
-use Rattle.rules.specs.Tree.{Instruction, Block, Function}
+use lib.Dec.{T}
+use Rattle.rules.specs.Lists.{concatMap, nothing}
+use Rattle.rules.specs.Tree.{Instruction, Function}
+use Rattle.rules.specs.Records.{IsBytes}
 use Rattle.rules.specs.File.{functionIn}
 use Rattle.rules.specs.Graph.{blockAt, isMarked, instructionsOf, valuesPassed, successors}
 use Rattle.rules.specs.Services.{isAccepted, rewritingAnswer, rewritingOutput, finalRecords}
 use Rattle.rules.specs.TwoRuns.{World, Mover, trace}
-use Rattle.rules.specs.declared.Rewriting.{Rewriting}
 
 -- a path from block 0 to a block, with the blocks passed before it, last first
-pub data Path-to (f : Function) : ℕ → List ℕ → Type 0 where
-  start : Path-to f 0 []
-  onward : {b t : ℕ} {passed : List ℕ} → Path-to f b passed → List·Memᴰ t (successors f b) → Path-to f t (b ∷ passed)
+pub data PathTo (f : Function) : ℕ → List ℕ → Type 0 where
+  start : PathTo f 0 []
+  onward : {b t : ℕ} {passed : List ℕ} → PathTo f b passed → List·Memᴰ t (successors f b) → PathTo f t (b ∷ passed)
 
 -- the values that a list of instructions defines, and those that a block does
 abbrev pub resultsOf : List Instruction → List ℕ
@@ -28,18 +28,15 @@ definedIn f b = blockAt f b .parameters ++ resultsOf (instructionsOf (blockAt f 
 -- used before their instruction, edge arguments after it.
 pub record Dominated (f : Function) : Type 0 where
   pub before :
-      {b : ℕ} {passed : List ℕ} → Path-to f b passed
+      {b : ℕ} {passed : List ℕ} → PathTo f b passed
       → (earlier : List Instruction) (i : Instruction) (later : List Instruction) → instructionsOf (blockAt f b) ≡ earlier ++ (i ∷ later)
       → (v : ℕ) → List·Memᴰ v (i .arguments ++ i .contexts)
       → List·Memᴰ v (concatMap (definedIn f) passed ++ (blockAt f b .parameters ++ resultsOf earlier))
   pub after :
-      {b : ℕ} {passed : List ℕ} → Path-to f b passed
+      {b : ℕ} {passed : List ℕ} → PathTo f b passed
       → (earlier : List Instruction) (i : Instruction) (later : List Instruction) → instructionsOf (blockAt f b) ≡ earlier ++ (i ∷ later)
       → (v : ℕ) → List·Memᴰ v (valuesPassed i)
       → List·Memᴰ v (concatMap (definedIn f) passed ++ (blockAt f b .parameters ++ resultsOf (earlier ++ (i ∷ []))))
-
-abbrev pub IsBytes : List ℕ → Type 0
-IsBytes s = T (all (λ b. ltb b 256) s)
 
 -- in these runs each instruction of the file is a step
 abbrev pub everyInstruction : Instruction → Bool
@@ -49,12 +46,12 @@ everyInstruction _ = true
 abbrev pub finalFile : List ℕ → ℕ → ℕ → List ℕ
 finalFile s pointer n = finalRecords (rewritingAnswer s pointer n) s (rewritingOutput s pointer n)
 
--- For every accepted file in which every reachable use is dominated, every world, mover, first content of the slots and
--- number of steps: the original, in which every marked value defined so far moves, and the final records, in which only
--- the listed slots move, are seen to do the same.
+-- For every accepted file in which every reachable use is dominated, every world, mover, first content of words and slots
+-- and number of steps: the original, in which every marked value defined so far moves, and the final records, in which
+-- only the listed slots move, are seen to do the same.
 unfoldable pub Demand3 : Type 0
 Demand3 =
     (s : List ℕ) (pointer n : ℕ) → IsBytes s → T (isAccepted (rewritingAnswer s pointer n .verdict)) → Dominated (functionIn s)
-    → (world : World) (mover : Mover) (slots : ℕ → ℕ) (steps : ℕ)
-    → trace (functionIn s) everyInstruction (isMarked (functionIn s)) world mover slots steps
-    ≡ trace (functionIn (finalFile s pointer n)) everyInstruction nothing world mover slots steps
+    → (world : World) (mover : Mover) (words words′ slots slots′ : ℕ → ℕ) (steps : ℕ)
+    → trace (functionIn s) everyInstruction (isMarked (functionIn s)) world mover words slots steps
+    ≡ trace (functionIn (finalFile s pointer n)) everyInstruction nothing world mover words′ slots′ steps

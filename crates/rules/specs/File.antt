@@ -1,10 +1,10 @@
 -- The order of a file's records, the tree that they are, and the records of a tree.
-use Prim.Native.Nat.{ℕ, zero, suc, _+_}
-use mathlib.Core.Bool.{Bool, true, false, not, _&&_, _||_, cond}
+use Prim.Native.Nat.{ℕ}
+use mathlib.Core.Bool.{Bool, true, false, _&&_, cond}
 use mathlib.Core.List.{List, [], _∷_, _++_, map}
-use lib.ListN.{length, getD}
-use lib.Dec.{ltb, leb, eqb}
-use Rattle.rules.specs.Lists.{keep, concatMap, has}
+use lib.ListN.{getD}
+use lib.Dec.{leb, eqb}
+use Rattle.rules.specs.Lists.{concatMap, has}
 use Rattle.rules.specs.Tree.{Value, Edge, MapEntry, Instruction, Item, instruction, slotAddress, store, load, jump, Block, Function}
 use Rattle.rules.specs.Records.{Words, encode, kind, isSafepoint, isTerminator, edgeArgument, records}
 use Rattle.rules.specs.declared.EdgeArgument.{EdgeArgument}
@@ -36,7 +36,8 @@ abbrev pub ordered : ℕ → List Record → Bool
 ordered p [] = leb 4 p
 ordered p (r ∷ rs) = follows p (kind r) && ordered (kind r) rs
 
--- a record that opens a part of the file, and the records of that part
+-- A record that opens a part of the file, and the records of that part. Words are read off a record by `encode`, so that
+-- one table serves reading and writing.
 pub record Section : Type 0 where
   pub head : Record
   pub body : List Record

@@ -1,10 +1,10 @@
--- The parts of a function by number, and the walk that gives the reachable blocks their post-order indices.
+-- The parts of a function that comes in, by number, and the walk that gives the reachable blocks their post-order indices.
 use Prim.Native.Nat.{ℕ, zero, suc}
 use mathlib.Core.Bool.{Bool, true, false}
-use mathlib.Core.List.{List, [], _∷_, _++_, map, reverse}
+use mathlib.Core.List.{List, [], _∷_, map, reverse}
 use lib.ListN.{length, getD}
 use Rattle.rules.specs.Lists.{concatMap, foldl, has}
-use Rattle.rules.specs.Tree.{Value, Edge, MapEntry, Instruction, Item, instruction, slotAddress, store, load, jump, Block, Function}
+use Rattle.rules.specs.Tree.{Value, Edge, Instruction, Item, instruction, slotAddress, store, load, jump, Block, Function}
 use Rattle.rules.specs.declared.EdgeArgument.{EdgeArgument}
 use Rattle.rules.specs.declared.EdgeArgument.the-variants as passes
 

@@ -12,4 +12,5 @@ pub mod Rewriting
 pub mod Services
 pub mod TwoRuns
 pub mod Demand3
+pub mod SheetFiles
 pub mod Sheets

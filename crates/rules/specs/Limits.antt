@@ -21,7 +21,7 @@ largestInstructions = 1024
 abbrev pub largestEdges : ℕ
 largestEdges = 256
 
--- the words of a block's row in a live table, value n update bit n mod 64 of word n / 64
+-- the words of a block's row in a live table, value n at bit n mod 64 of word n / 64
 abbrev pub rowWords : ℕ
 rowWords = 8
 

@@ -32,6 +32,11 @@ module _ {A : Type 0} where
   empty [] = true
   empty (_ ∷ _) = false
 
+  -- the option holds nothing
+  abbrev pub isNone : Option A → Bool
+  isNone none = true
+  isNone (some _) = false
+
   -- what an option holds, or else this
   abbrev pub orElse : A → Option A → A
   orElse x none = x

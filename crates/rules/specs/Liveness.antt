@@ -1,14 +1,14 @@
 -- Liveness: the rule through a block, the live sets as its least solution, the process that finds them with its visits
 -- and pushes, the safepoints' lists, and which values are spilled.
 use Prim.Native.Nat.{ℕ, zero, suc, _+_, _*_}
-use mathlib.Core.Bool.{Bool, true, false, not, _&&_, _||_, cond}
+use mathlib.Core.Bool.{true, false, cond}
 use mathlib.Core.Option.{Option, none, some}
-use mathlib.Core.List.{List, [], _∷_, _++_, map, reverse, List·Memᴰ}
-use lib.ListN.{length, getD}
+use mathlib.Core.List.{List, [], _∷_, map, reverse, List·Memᴰ}
+use lib.ListN.{length}
 use lib.Dec.{T, eqb}
-use Rattle.rules.specs.Lists.{any, keep, count, orElse, concatMap, foldl, has, update, upFrom, Set, nothing, union, adding, removing, members, grew}
-use Rattle.rules.specs.Tree.{Value, Instruction, Block, Function}
-use Rattle.rules.specs.Graph.{blockAt, isMarked, instructionsOf, valuesPassed, edgesOut, successors, reachable}
+use Rattle.rules.specs.Lists.{any, keep, count, orElse, concatMap, foldl, zipWith, has, update, upFrom, Set, nothing, union, adding, removing, members, grew}
+use Rattle.rules.specs.Tree.{Instruction, Function}
+use Rattle.rules.specs.Graph.{blockAt, isMarked, instructionsOf, valuesPassed, successors, reachable}
 
 -- THE RULE. Live across an instruction: after it, with the marked value edge arguments, without the results.
 abbrev pub across : Function → Instruction → Set → Set
@@ -27,7 +27,7 @@ beforeAll f (i ∷ is) out = before f i (beforeAll f is out)
 abbrev pub through : Function → ℕ → Set → Set
 through f b out = removing (blockAt f b .parameters) (beforeAll f (instructionsOf (blockAt f b)) out)
 
--- THE LEAST SOLUTION. A value is live out of a block if it is live into a successor; it is live into a block if the rule
+-- THE LEAST SOLUTION, of which document 01 asks for reachable blocks. A value is live out of a block if it is live into a successor; it is live into a block if the rule
 -- gives it from values that are live out. Nothing else is live.
 mutual
   pub data LiveOut (f : Function) : ℕ → ℕ → Type 0 where
@@ -125,6 +125,10 @@ unfoldable pub listsOf : Function → ℕ → List (Option (List ℕ))
 listsOf f b =
     let is = instructionsOf (blockAt f b) in
     elim (has b (reachable f)) [ true ↦ listsAmong f is (process f .outs b) | false ↦ map (λ _. none) is ]
+
+-- a block's instructions, each with its list
+abbrev pub listedInstructions : Function → ℕ → List (Instruction × Option (List ℕ))
+listedInstructions f b = zipWith (λ i l. (i, l)) (instructionsOf (blockAt f b)) (listsOf f b)
 
 -- the lists by instruction number
 abbrev pub lists : Function → List (Option (List ℕ))

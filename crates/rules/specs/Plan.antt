@@ -2,14 +2,14 @@
 -- numbers of new values and blocks. A number stands beside the operand or definition that it is made for; what is
 -- written follows from the numbers and the slots alone (Rewriting.antt).
 use Prim.Native.Nat.{ℕ, suc}
-use mathlib.Core.Bool.{Bool, true, false, cond}
+use mathlib.Core.Bool.{false, cond}
 use mathlib.Core.Option.{Option, none, some}
 use mathlib.Core.List.{List, [], _∷_, _++_, map}
 use lib.ListN.{length}
-use Rattle.rules.specs.Lists.{any, keep, orElse, zipWith, members}
-use Rattle.rules.specs.Tree.{Value, Edge, Instruction, Block, Function}
-use Rattle.rules.specs.Graph.{blockAt, sizeOf, instructionsOf, valuesAmong, reachable}
-use Rattle.rules.specs.Liveness.{State, process, listsOf, isSpilled}
+use Rattle.rules.specs.Lists.{any, keep, zipWith, members}
+use Rattle.rules.specs.Tree.{Value, Edge, Instruction, Function}
+use Rattle.rules.specs.Graph.{blockAt, sizeOf, valuesAmong, reachable}
+use Rattle.rules.specs.Liveness.{process, listedInstructions, isSpilled}
 use Rattle.rules.specs.Slots.{StackSlots, noSlots, giveSlot, freeSlot}
 use Rattle.rules.specs.declared.EdgeArgument.{EdgeArgument}
 use Rattle.rules.specs.declared.EdgeArgument.the-variants as passes
@@ -20,12 +20,12 @@ pub record Plan : Type 0 where
   pub values : List Value  -- the file's and the new ones
   pub blocks : ℕ  -- how many, landings with the file's
 
--- the first of the values made for an operand or a definition, or a landing's number; none where nothing is made
+-- the first of the values made for an operand or a definition; none where nothing is made
 abbrev pub Made : Type 0
 Made = Option ℕ
 
 pub record EdgePlan : Type 0 where
-  pub landing : Made
+  pub landing : Option ℕ  -- its landing's number, where it gets one
   pub arguments : List Made
 
 pub record InstructionPlan : Type 0 where
@@ -156,7 +156,7 @@ module _ (f : Function) (pointer : ℕ) where
   abbrev pub planBlock : ℕ → M BlockPlan
   planBlock b = do
     _ ← forEach planSlot (keep (isSpilled f) (members (length (f .values)) (process f .outs b)))
-    is ← forEachBackward planInstruction (zipWith (λ i l. (i, l)) (instructionsOf (blockAt f b)) (listsOf f b))
+    is ← forEachBackward planInstruction (listedInstructions f b)
     ps ← forEach planDefinition (blockAt f b .parameters)
     pure (record { parameters = ps; instructions = is })
 

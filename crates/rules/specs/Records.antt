@@ -1,11 +1,11 @@
 -- The function file: bytes, words, and the table of the fifteen kinds.
 use Prim.Native.Nat.{ℕ, zero, suc, _+_, _*_, _/_, _%_}
-use mathlib.Core.Bool.{Bool, true, false, not, _&&_, _||_, cond}
+use mathlib.Core.Bool.{Bool, true, false, _&&_, cond}
 use mathlib.Core.List.{List, [], _∷_}
 use lib.ListN.{length, getD, drop}
-use lib.Dec.{ltb, leb, eqb}
+use lib.Dec.{T, ltb, leb, eqb}
 use Rattle.rules.specs.Limits.{recordBytes}
-use Rattle.rules.specs.Lists.{concatMap, has}
+use Rattle.rules.specs.Lists.{all, concatMap, has}
 use Rattle.rules.specs.declared.EdgeArgument.{EdgeArgument}
 use Rattle.rules.specs.declared.EdgeArgument.the-variants as passes
 use Rattle.rules.specs.declared.Record.{Record}
@@ -38,7 +38,7 @@ bit false = 0
 abbrev pub slotSizes : List ℕ
 slotSizes = 1 ∷ 2 ∷ 4 ∷ 8 ∷ 16 ∷ []
 
--- the logarithm of a slot's size
+-- the logarithm of a slot's size, one of those
 abbrev pub log2 : ℕ → ℕ
 log2 size = cond (eqb size 1) 0 (cond (eqb size 2) 1 (cond (eqb size 4) 2 (cond (eqb size 8) 3 4)))
 
@@ -126,6 +126,10 @@ firstWords s = eachFrom (λ t. wordAt t 0) (recordCount s) s
 -- the bytes of a record
 abbrev pub bytesOfRecord : Record → List ℕ
 bytesOfRecord r = concatMap bytesOfWord (encode r .kind ∷ encode r .second ∷ encode r .third ∷ encode r .fourth ∷ [])
+
+-- a list of bytes
+abbrev pub IsBytes : List ℕ → Type 0
+IsBytes s = T (all (λ b. ltb b 256) s)
 
 -- the bytes of a file
 unfoldable pub bytes : List Record → List ℕ

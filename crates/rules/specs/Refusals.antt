@@ -1,9 +1,9 @@
 -- Why a call says no. A service goes down a list of refusals, lowest number first, and gives the first that applies.
-use Prim.Native.Nat.{ℕ, zero, suc, _+_, _%_}
+use Prim.Native.Nat.{ℕ, suc, _%_}
 use mathlib.Core.Bool.{Bool, true, false, not, _&&_, _||_, cond}
-use mathlib.Core.List.{List, [], _∷_, _++_, map}
+use mathlib.Core.List.{List, [], _∷_, _++_}
 use lib.ListN.{length}
-use lib.Dec.{ltb, leb, eqb}
+use lib.Dec.{ltb, eqb}
 use Rattle.rules.specs.Lists.{all, any, count, empty, concatMap, has, upFrom, members}
 use Rattle.rules.specs.Tree.{Value, Edge, Instruction, Block, Function}
 use Rattle.rules.specs.Limits.{recordBytes, largestRecords, largestValues, largestBlocks, largestInstructions, largestEdges}
@@ -17,19 +17,19 @@ use Rattle.rules.specs.declared.Verdict.{Verdict}
 use Rattle.rules.specs.declared.Verdict.the-variants as verdict
 
 -- document 01's number of a verdict, 0 where the call is answered
-abbrev pub number : Verdict → ℕ
-number verdict.Accepted = 0
-number verdict.PointerSize = 1
-number verdict.Length = 2
-number verdict.TooMany = 3
-number verdict.Malformed = 4
-number verdict.NotInFile = 5
-number verdict.NotDefinedOnce = 6
-number verdict.Unsound = 7
-number verdict.MarkedContext = 8
-number verdict.SlotSize = 9
-number verdict.NoSafepoint = 10
-number verdict.TooShort = 11
+abbrev pub refusalNumber : Verdict → ℕ
+refusalNumber verdict.Accepted = 0
+refusalNumber verdict.PointerSize = 1
+refusalNumber verdict.Length = 2
+refusalNumber verdict.TooMany = 3
+refusalNumber verdict.Malformed = 4
+refusalNumber verdict.NotInFile = 5
+refusalNumber verdict.NotDefinedOnce = 6
+refusalNumber verdict.Unsound = 7
+refusalNumber verdict.MarkedContext = 8
+refusalNumber verdict.SlotSize = 9
+refusalNumber verdict.NoSafepoint = 10
+refusalNumber verdict.TooShort = 11
 
 -- a refusal, and whether it applies
 pub record Refusal : Type 0 where

@@ -1,15 +1,14 @@
 -- Rewriting: the function that is written, from the function read, the planned numbers and the slots.
 use Prim.Native.Nat.{ℕ, suc}
-use mathlib.Core.Bool.{Bool, true, false, cond}
+use mathlib.Core.Bool.{true, false}
 use mathlib.Core.Option.{Option, none, some}
 use mathlib.Core.List.{List, [], _∷_, _++_, map}
 use lib.Dec.{eqb}
 use Rattle.rules.specs.Lists.{orElse, concatMap, zipWith, concatZip}
 use Rattle.rules.specs.Tree.{Value, Edge, MapEntry, Instruction, Item, instruction, slotAddress, store, load, jump, Block, Function}
-use Rattle.rules.specs.Graph.{sizeOf, instructionsOf, reachable}
-use Rattle.rules.specs.Liveness.{listsOf}
-use Rattle.rules.specs.Slots.{StackSlots}
-use Rattle.rules.specs.Plan.{Plan, Made, EdgePlan, InstructionPlan, BlockPlan, planned}
+use Rattle.rules.specs.Graph.{sizeOf, reachable}
+use Rattle.rules.specs.Liveness.{listedInstructions}
+use Rattle.rules.specs.Plan.{Made, EdgePlan, InstructionPlan, BlockPlan, planned}
 use Rattle.rules.specs.declared.EdgeArgument.{EdgeArgument}
 use Rattle.rules.specs.declared.EdgeArgument.the-variants as passes
 
@@ -31,7 +30,7 @@ wordsAmong (passes.Returned index ∷ xs) = passes.Returned index ∷ wordsAmong
 wordsAmong (passes.Exception index ∷ xs) = passes.Exception index ∷ wordsAmong xs
 
 -- an edge with its operands replaced, or led to its landing with only the words
-abbrev pub edgeTo : Made → Edge → List Made → Edge
+abbrev pub edgeTo : Option ℕ → Edge → List Made → Edge
 edgeTo none e ns = record { target = e .target; arguments = zipWith edgeOperand (e .arguments) ns }
 edgeTo (some b) e ns = record { target = b; arguments = wordsAmong (e .arguments) }
 
@@ -116,18 +115,17 @@ module _ (size slot : ℕ → ℕ) where
       ++ (instruction (rewrittenInstruction i (orElse [] (x .1)) n) ∷ concatZip storeItems (i .results) (n .results)))
 
   -- a block: its parameters' stores before everything else, then its instructions; behind it its landings, in the order of edges
-  abbrev pub rewrittenBlock : Block → List (Option (List ℕ)) → BlockPlan → List Block
-  rewrittenBlock b ls n =
-      let is = instructionsOf b in
+  abbrev pub rewrittenBlock : Block → List (Instruction × Option (List ℕ)) → BlockPlan → List Block
+  rewrittenBlock b is n =
       record {
         cold = b .cold;
         number = b .number;
         parameters = b .parameters;
         items =
             concatZip storeItems (b .parameters) (n .parameters)
-            ++ concatZip instructionItems (zipWith (λ i l. (i, l)) is ls) (n .instructions);
+            ++ concatZip instructionItems is (n .instructions);
       }
-      ∷ concatZip (λ i m. concatZip landings (i .edges) (m .edges)) is (n .instructions)
+      ∷ concatZip (λ x m. concatZip landings (x .0 .edges) (m .edges)) is (n .instructions)
 
 module _ (f : Function) (pointer : ℕ) where
   -- the number that a value's slot has in the end
@@ -140,7 +138,7 @@ module _ (f : Function) (pointer : ℕ) where
   laid (_ ∷ _) [] b = b ∷ []
   laid (x ∷ xs) (n ∷ ns) b =
       elim (eqb x (b .number)) [
-        | true ↦ rewrittenBlock (sizeOf f) slotNumber b (listsOf f x) n
+        | true ↦ rewrittenBlock (sizeOf f) slotNumber b (listedInstructions f x) n
         | false ↦ laid xs ns b
       ]
 

@@ -1,29 +1,28 @@
 -- The four services and the program: each whole answer, and every lent buffer to its end, as a function of what is handed in.
 use Prim.Native.Nat.{ℕ, zero, suc, _+_, _-_, _*_, _/_, _%_}
 use mathlib.Core.Bool.{Bool, true, false, not, _&&_, _||_, cond}
-use mathlib.Core.Option.{Option, none, some}
+use mathlib.Core.Option.{Option, none}
 use mathlib.Core.List.{List, [], _∷_, _++_, map}
 use lib.ListN.{length, getD, take, replicate}
 use lib.Dec.{ltb, leb, eqb}
 use Rattle.rules.specs.Limits.{recordBytes, largestBlocks, rowWords, tableWords, programInput, programOutput, programPointer}
-use Rattle.rules.specs.Lists.{empty, orElse, concatMap, upFrom, padded, Set, members}
-use Rattle.rules.specs.Tree.{Value, Block, Function}
+use Rattle.rules.specs.Lists.{empty, isNone, orElse, concatMap, upFrom, padded, Set, members}
+use Rattle.rules.specs.Tree.{Function}
 use Rattle.rules.specs.Records.{bit, recordCount, bytes}
 use Rattle.rules.specs.File.{functionRecords, functionIn}
-use Rattle.rules.specs.Liveness.{State, process, lists, isSpilled}
-use Rattle.rules.specs.Refusals.{number, Refusal, _when_, firstOf, fileRefusals, spilledSize}
-use Rattle.rules.specs.Slots.{StackSlots}
-use Rattle.rules.specs.Plan.{Plan, BlockPlan, planned}
+use Rattle.rules.specs.Liveness.{process, lists, isSpilled}
+use Rattle.rules.specs.Refusals.{refusalNumber, _when_, firstOf, fileRefusals, spilledSize}
+use Rattle.rules.specs.Plan.{planned}
 use Rattle.rules.specs.Rewriting.{rewritten}
-use Rattle.rules.specs.declared.Liveness.{Liveness}
-use Rattle.rules.specs.declared.Listing.{Listing}
-use Rattle.rules.specs.declared.Rewriting.{Rewriting}
+use Rattle.rules.specs.declared.LivenessAnswer.{LivenessAnswer}
+use Rattle.rules.specs.declared.ListAnswer.{ListAnswer}
+use Rattle.rules.specs.declared.RewritingAnswer.{RewritingAnswer}
 use Rattle.rules.specs.declared.Verdict.{Verdict}
 use Rattle.rules.specs.declared.Verdict.the-variants as verdict
 
 -- the call is answered
 abbrev pub isAccepted : Verdict → Bool
-isAccepted v = eqb (number v) 0
+isAccepted v = eqb (refusalNumber v) 0
 
 -- a lent buffer of length n after a call: what is written, with zeros behind it; zeros alone where the call is refused
 abbrev pub lent : Verdict → ℕ → List ℕ → List ℕ
@@ -35,10 +34,10 @@ counted v n = elim (isAccepted v) [ true ↦ n | false ↦ 0 ]
 
 -- a count that tells the length needed: given with 11 too
 abbrev pub needed : Verdict → ℕ → ℕ
-needed v n = elim (isAccepted v || eqb (number v) 11) [ true ↦ n | false ↦ 0 ]
+needed v n = elim (isAccepted v || eqb (refusalNumber v) 11) [ true ↦ n | false ↦ 0 ]
 
 -- LIVENESS, of file s, with lent tables of n and m words.
--- word w of a set's row: value v update bit v mod 64 of word v / 64
+-- word w of a set's row: value v at bit v mod 64 of word v / 64
 abbrev pub bitsFrom : Set → ℕ → ℕ → ℕ
 bitsFrom s v zero = 0
 bitsFrom s v (suc k) = bit (s v) + 2 * bitsFrom s (suc v) k
@@ -53,7 +52,7 @@ table rows = concatMap (λ b. map (rowWord (rows b)) (upFrom 0 rowWords)) (upFro
 unfoldable pub livenessVerdict : List ℕ → ℕ → ℕ → Verdict
 livenessVerdict s n m = firstOf (fileRefusals s ++ ((verdict.TooShort when (ltb n tableWords || ltb m tableWords)) ∷ []))
 
-unfoldable pub livenessAnswer : List ℕ → ℕ → ℕ → Liveness
+unfoldable pub livenessAnswer : List ℕ → ℕ → ℕ → LivenessAnswer
 livenessAnswer s n m =
     let v = livenessVerdict s n m in
     let p = process (functionIn s) in
@@ -70,10 +69,6 @@ livenessOuts s n m = lent (livenessVerdict s n m) m (table (process (functionIn 
 abbrev pub listAsked : List ℕ → ℕ → Option (List ℕ)
 listAsked s i = getD (lists (functionIn s)) i none
 
-abbrev pub isNone : {A : Type 0} → Option A → Bool
-isNone none = true
-isNone (some _) = false
-
 unfoldable pub listVerdict : List ℕ → ℕ → ℕ → Verdict
 listVerdict s i n =
     firstOf
@@ -82,7 +77,7 @@ listVerdict s i n =
     ∷ (verdict.TooShort when ltb n (length (orElse [] (listAsked s i))))
     ∷ []))
 
-unfoldable pub listAnswer : List ℕ → ℕ → ℕ → Listing
+unfoldable pub listAnswer : List ℕ → ℕ → ℕ → ListAnswer
 listAnswer s i n =
     let v = listVerdict s i n in
     record { verdict = v; count = needed v (length (orElse [] (listAsked s i))) }
@@ -112,7 +107,7 @@ rewritingVerdict s pointer n =
     ∷ (verdict.TooShort when (not (isUnchanged (functionIn s)) && ltb n (recordBytes * recordsOf s pointer)))
     ∷ [])))
 
-unfoldable pub rewritingAnswer : List ℕ → ℕ → ℕ → Rewriting
+unfoldable pub rewritingAnswer : List ℕ → ℕ → ℕ → RewritingAnswer
 rewritingAnswer s pointer n =
     let v = rewritingVerdict s pointer n in
     let f = functionIn s in
@@ -135,7 +130,7 @@ rewritingOutput s pointer n =
 
 -- THE FINAL RECORDS, by any answer: the first records x 16 bytes of the input, where it is unchanged, or of the output;
 -- none for a refusal or where the chosen buffer is shorter.
-unfoldable pub finalRecords : Rewriting → List ℕ → List ℕ → List ℕ
+unfoldable pub finalRecords : RewritingAnswer → List ℕ → List ℕ → List ℕ
 finalRecords answer input output =
     let chosen = cond (answer .unchanged) input output in
     let n = recordBytes * answer .records in
@@ -153,10 +148,10 @@ unfoldable pub programWrites : List ℕ → List ℕ
 programWrites s =
     let answer = rewritingAnswer s programPointer programOutput in
     elim (ltb programInput (length s)) [
-      | true ↦ refusedLine (number verdict.TooMany)
+      | true ↦ refusedLine (refusalNumber verdict.TooMany)
       | false ↦
           elim (isAccepted (answer .verdict)) [
             | true ↦ finalRecords answer s (rewritingOutput s programPointer programOutput)
-            | false ↦ refusedLine (number (answer .verdict))
+            | false ↦ refusedLine (refusalNumber (answer .verdict))
           ]
     ]

@@ -1,12 +1,12 @@
 -- The two runs of demand 3: the world, the mover, one machine for both runs, and what is compared.
 use Prim.Native.Nat.{ℕ, zero, suc, _+_, _%_}
 use mathlib.Core.Bool.{Bool, true, false, _&&_, cond}
-use mathlib.Core.Option.{Option, none, some, Option·map}
+use mathlib.Core.Option.{Option, none, some}
 use mathlib.Core.List.{List, [], _∷_, map}
 use lib.ListN.{length, getD}
 use lib.Dec.{eqb}
-use Rattle.rules.specs.Lists.{count, orElse, has, update, upFrom, Set}
-use Rattle.rules.specs.Tree.{Edge, MapEntry, Instruction, Item, instruction, slotAddress, store, load, jump, Block, Function}
+use Rattle.rules.specs.Lists.{count, has, update, upFrom, Set, nothing}
+use Rattle.rules.specs.Tree.{Edge, Instruction, Item, instruction, slotAddress, store, load, jump, Block, Function}
 use Rattle.rules.specs.Records.{bit}
 use Rattle.rules.specs.Graph.{blockAt, instructionsAmong}
 use Rattle.rules.specs.declared.EdgeArgument.{EdgeArgument}
@@ -36,103 +36,122 @@ pub record Seen : Type 0 where
   pub arguments : List ℕ
   pub edge : Option ℕ
 
--- the words of the values defined so far, and the words in the slots, which keep them whole
-pub record Memory : Type 0 where
-  pub words : ℕ → Option ℕ
+-- where a run stands between items: the words of values, which of them are defined so far, the words in the slots, which
+-- keep them whole, and the words that have arrived at a block's parameters since the last step
+pub record Machine : Type 0 where
+  pub words : ℕ → ℕ
+  pub defined : Set
   pub slots : ℕ → ℕ
-
-abbrev pub read : Memory → ℕ → ℕ
-read m v = orElse 0 (m .words v)
+  pub arrived : Option (List ℕ)
 
 -- values get the words that are given by position, from k on
-abbrev pub defineFrom : ℕ → List ℕ → (ℕ → ℕ) → Memory → Memory
+abbrev pub defineFrom : ℕ → List ℕ → (ℕ → ℕ) → Machine → Machine
 defineFrom k [] given m = m
-defineFrom k (v ∷ vs) given m = defineFrom (suc k) vs given (record { words = update v (some (given k)) (m .words); slots = m .slots })
+defineFrom k (v ∷ vs) given m =
+    defineFrom (suc k) vs given
+    (record { words = update v (given k) (m .words); defined = update v true (m .defined); slots = m .slots; arrived = m .arrived })
+
+abbrev pub define : List ℕ → (ℕ → ℕ) → Machine → Machine
+define = defineFrom 0
+
+-- a word is stored in the slot of an address
+abbrev pub storeAt : ℕ → ℕ → Machine → Machine
+storeAt address word m =
+    record { words = m .words; defined = m .defined; slots = update address word (m .slots); arrived = m .arrived }
+
+abbrev pub setArrived : Option (List ℕ) → Machine → Machine
+setArrived ws m = record { words = m .words; defined = m .defined; slots = m .slots; arrived = ws }
 
 -- the words that an edge passes
-abbrev pub passed : Memory → (ℕ → ℕ) → (ℕ → ℕ) → List EdgeArgument → List ℕ
-passed m returned exception [] = []
-passed m returned exception (passes.Value v ∷ xs) = read m v ∷ passed m returned exception xs
-passed m returned exception (passes.Returned k ∷ xs) = returned k ∷ passed m returned exception xs
-passed m returned exception (passes.Exception k ∷ xs) = exception k ∷ passed m returned exception xs
+abbrev pub passed : (ℕ → ℕ) → (ℕ → ℕ) → (ℕ → ℕ) → List EdgeArgument → List ℕ
+passed words returned exception [] = []
+passed words returned exception (passes.Value v ∷ xs) = words v ∷ passed words returned exception xs
+passed words returned exception (passes.Returned k ∷ xs) = returned k ∷ passed words returned exception xs
+passed words returned exception (passes.Exception k ∷ xs) = exception k ∷ passed words returned exception xs
 
 -- a step that is about to be taken: its instruction and number, and the items behind it
 pub record Step : Type 0 where
   pub at : Instruction
   pub number : ℕ
   pub behind : List Item
-  pub memory : Memory
+  pub machine : Machine
 
 -- what a run meets next: a step, an edge that is no step, or its end
 pub data Next : Type 0 where
   meets : Step → Next
-  along : Edge → Memory → Next
+  along : Edge → Machine → Next
   ends : Next
 
 -- an instruction that is no step leads along its edge
-abbrev pub alongOnly : List Edge → Memory → Next
+abbrev pub alongOnly : List Edge → Machine → Next
 alongOnly [] m = ends
 alongOnly (e ∷ _) m = along e m
 
--- The machine: it is given which instructions are steps, and which values move at a safepoint.
+-- The machine is given which instructions are steps, and which values move at a safepoint.
 module _ (f : Function) (isStep : Instruction → Bool) (moving : Set) (world : World) (mover : Mover) where
   -- added instructions are no steps; stores and loads go through the address that was computed
-  abbrev pub meet : List Item → ℕ → Memory → Next
+  abbrev pub meet : List Item → ℕ → Machine → Next
   meet [] k m = ends
   meet (instruction i ∷ items) k m =
       elim (isStep i) [
-        | true ↦ meets (record { at = i; number = k; behind = items; memory = m })
+        | true ↦ meets (record { at = i; number = k; behind = items; machine = m })
         | false ↦ alongOnly (i .edges) m
       ]
-  meet (slotAddress r slot ∷ items) k m = meet items k (defineFrom 0 (r ∷ []) (λ _. slot) m)
-  meet (store v a ∷ items) k m = meet items k (record { words = m .words; slots = update (read m a) (read m v) (m .slots) })
-  meet (load r a _ ∷ items) k m = meet items k (defineFrom 0 (r ∷ []) (λ _. m .slots (read m a)) m)
+  meet (slotAddress r slot ∷ items) k m = meet items k (define (r ∷ []) (λ _. slot) m)
+  meet (store v a ∷ items) k m = meet items k (storeAt (m .words a) (m .words v) m)
+  meet (load r a _ ∷ items) k m = meet items k (define (r ∷ []) (λ _. m .slots (m .words a)) m)
   meet (jump e ∷ items) k m = along e m
 
-  -- block t among blocks is entered with words; steps are numbered by position, from first on
-  abbrev pub enterAmong : List Block → ℕ → ℕ → List ℕ → Memory → Next
-  enterAmong [] first t ws m = ends
-  enterAmong (b ∷ bs) first t ws m =
+  -- a block is entered with words, which arrive at its parameters; its first step has number k
+  abbrev pub enterWith : Block → ℕ → List ℕ → Machine → Next
+  enterWith b k ws m =
+      let inside = define (b .parameters) (λ j. getD ws j 0) m in
+      meet (b .items) k (setArrived (some (map (inside .words) (b .parameters))) inside)
+
+  -- block t among blocks is entered; steps are numbered by position, from k on
+  abbrev pub enterAmong : List Block → ℕ → ℕ → List ℕ → Machine → Next
+  enterAmong [] k t ws m = ends
+  enterAmong (b ∷ bs) k t ws m =
       elim (eqb (b .number) t) [
-        | true ↦ meet (b .items) first (defineFrom 0 (b .parameters) (λ k. getD ws k 0) m)
-        | false ↦ enterAmong bs (first + count isStep (instructionsAmong (b .items))) t ws m
+        | true ↦ enterWith b k ws m
+        | false ↦ enterAmong bs (k + count isStep (instructionsAmong (b .items))) t ws m
       ]
 
-  abbrev pub enterBlock : ℕ → List ℕ → Memory → Next
+  abbrev pub enterBlock : ℕ → List ℕ → Machine → Next
   enterBlock t ws m = enterAmong (f .blocks) 0 t ws m
 
-  -- the next step with what has arrived before it, over at most as many edges that are no steps
-  abbrev pub follow : ℕ → Option (List ℕ) → Next → Option (Option (List ℕ) × Step)
-  follow zero arrived next = none
-  follow (suc turns) arrived (meets s) = some (arrived, s)
-  follow (suc turns) arrived (along e m) =
-      let ws = passed m (λ _. 0) (λ _. 0) (e .arguments) in
-      follow turns (some ws) (enterBlock (e .target) ws m)
-  follow (suc turns) arrived ends = none
+  -- the next step, over at most so many edges that are no steps; more than there are blocks never lead to one
+  abbrev pub follow : ℕ → Next → Option Step
+  follow zero next = none
+  follow (suc turns) (meets s) = some s
+  follow (suc turns) (along e m) = follow turns (enterBlock (e .target) (passed (m .words) (λ _. 0) (λ _. 0) (e .arguments)) m)
+  follow (suc turns) ends = none
 
   -- at the k-th safepoint step: the moving values that are defined so far, and each listed slot once
-  abbrev pub moved : ℕ → Instruction → Memory → Memory
+  abbrev pub moved : ℕ → Instruction → Machine → Machine
   moved k i m =
       elim (i .safepoint) [
         | true ↦
             record {
-              words = λ v. cond (moving v) (Option·map (mover k) (m .words v)) (m .words v);
+              words = λ v. cond (moving v && m .defined v) (mover k (m .words v)) (m .words v);
+              defined = m .defined;
               slots = λ s. cond (has s (map (λ x. x .slot) (i .entries))) (mover k (m .slots s)) (m .slots s);
+              arrived = m .arrived;
             }
         | false ↦ m
       ]
 
   -- Step k, the j-th at a safepoint: arguments are read; references move; results are set; edge arguments are read. What is
-  -- seen of it, what arrives by its edge, and what comes next.
-  abbrev pub take : ℕ → ℕ → Option (List ℕ) → Step → Seen × Option (List ℕ) × Next
-  take k j arrived s =
+  -- seen of it, and what comes next.
+  abbrev pub takeStep : ℕ → ℕ → Step → Seen × Next
+  takeStep k j s =
       let i = s .at in
       let n = s .number in
-      let arguments = map (read (s .memory)) (i .arguments) in
-      let m = defineFrom 0 (i .results) (world .results k n arguments) (moved j i (s .memory)) in
+      let arguments = map (s .machine .words) (i .arguments) in
+      let m = setArrived none (define (i .results) (world .results k n arguments) (moved j i (s .machine))) in
       let seen : Option ℕ → Seen =
       λ e. record {
-        arrived = arrived;
+        arrived = s .machine .arrived;
         number = n;
         safepoint = i .safepoint;
         terminator = i .terminator;
@@ -141,27 +160,28 @@ module _ (f : Function) (isStep : Instruction → Bool) (moving : Set) (world : 
         edge = e;
       } in
       elim (i .edges) [
-        | [] ↦ (seen none, none, cond (i .terminator) ends (meet (s .behind) (suc n) m))
+        | [] ↦ (seen none, cond (i .terminator) ends (meet (s .behind) (suc n) m))
         | e ∷ es ↦
             let c = world .edge k n arguments % length (e ∷ es) in
             let taken = getD (e ∷ es) c e in
-            let ws = passed m (world .returned k n arguments) (world .exception k n arguments) (taken .arguments) in
-            (seen (some c), some ws, enterBlock (taken .target) ws m)
+            let ws = passed (m .words) (world .returned k n arguments) (world .exception k n arguments) (taken .arguments) in
+            (seen (some c), enterBlock (taken .target) ws m)
       ]
 
   -- n steps of a run, from step k on
-  abbrev pub run : ℕ → ℕ → ℕ → Option (List ℕ) → Next → List Seen
-  run zero k j arrived next = []
-  run (suc n) k j arrived next =
-      elim (follow (suc (suc (length (f .blocks)))) arrived next) [
+  abbrev pub run : ℕ → ℕ → ℕ → Next → List Seen
+  run zero k j next = []
+  run (suc n) k j next =
+      elim (follow (suc (suc (length (f .blocks)))) next) [
         | none ↦ []
-        | some met ↦
-            let t = take k j (met .0) (met .1) in
-            t .0 ∷ run n (suc k) (j + bit (met .1 .at .safepoint)) (t .1) (t .2)
+        | some s ↦
+            let t = takeStep k j s in
+            t .0 ∷ run n (suc k) (j + bit (s .at .safepoint)) (t .1)
       ]
 
-  -- the first n steps from block 0, which is entered with the entry words; the slots have any first content
-  unfoldable pub trace : (ℕ → ℕ) → ℕ → List Seen
-  trace slots n =
-      let ws = map (world .entry) (upFrom 0 (length (blockAt f 0 .parameters))) in
-      run n 0 0 (some ws) (enterBlock 0 ws (record { words = λ _. none; slots = slots }))
+  -- the first n steps from block 0, which is entered with the entry words; words and slots have any first content
+  unfoldable pub trace : (ℕ → ℕ) → (ℕ → ℕ) → ℕ → List Seen
+  trace words slots n =
+      run n 0 0
+      (enterBlock 0 (map (world .entry) (upFrom 0 (length (blockAt f 0 .parameters))))
+      (record { words = words; defined = nothing; slots = slots; arrived = none }))

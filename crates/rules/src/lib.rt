@@ -54,7 +54,7 @@ pub enum Record {
     Outside,
 }
 
-// Whether a call is answered, and if not, why; `number` of specs/Refusals.antt gives document 01's number.
+// Whether a call is answered, and if not, why; `refusalNumber` of specs/Refusals.antt gives document 01's number.
 pub enum Verdict {
     Accepted,
     PointerSize,
@@ -71,20 +71,20 @@ pub enum Verdict {
 }
 
 // What liveness answers, beside its two lent tables.
-pub struct Liveness {
+pub struct LivenessAnswer {
     pub verdict: Verdict,
     pub visits: u32,
     pub pushes: u32,
 }
 
 // What the list of one safepoint answers, beside the lent words. Of a list that does not fit, count is what it needs.
-pub struct Listing {
+pub struct ListAnswer {
     pub verdict: Verdict,
     pub count: u32,
 }
 
 // What rewriting answers, beside the lent output. Of an output that does not fit, records is what it needs.
-pub struct Rewriting {
+pub struct RewritingAnswer {
     pub verdict: Verdict,
     pub records: u32,
     pub slots: u32,
@@ -94,6 +94,7 @@ pub struct Rewriting {
     pub unchanged: bool,
 }
 
+// The limits; specs/Limits.antt has the same numbers, and contracts tie the two together.
 pub const RECORD_BYTES: usize = 16;
 
 pub const LARGEST_RECORDS: usize = 2048;

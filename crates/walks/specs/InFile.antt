@@ -13,7 +13,7 @@ use Rattle.rules.specs.Records.{kind}
 use Rattle.rules.specs.File.{followers, follows, ordered, Cut, cut, blockOf, function}
 use Rattle.rules.specs.Graph.{blockAt, instructionsOf, edgesOut, successors, reachable}
 use Rattle.rules.specs.Refusals.{allEdges, definitions, uses, numbersInFile}
-use Rattle.rules.specs.Demand3.{Path-to, start, onward}
+use Rattle.rules.specs.Demand3.{PathTo, start, onward}
 use Rattle.rules.specs.declared.Record.{Record}
 use Rattle.lists.specs.Tests.{test-elim, if-elim, T-and, neqb→ne}
 use Rattle.lists.specs.Members.{has→∈}
@@ -83,7 +83,7 @@ module _ (f : Function) (inFile : T (numbersInFile f)) where
 
   module _ (some : 0 < length (f .blocks)) where
     -- Every path leads to a block of the file.
-    pub path-in-file : {b : ℕ} {passed : List ℕ} → Path-to f b passed → b < length (f .blocks)
+    pub path-in-file : {b : ℕ} {passed : List ℕ} → PathTo f b passed → b < length (f .blocks)
     path-in-file start = some
     path-in-file (onward {b = b} p m) = successor-in-file b m
 

@@ -12,7 +12,7 @@ use lib.Dec.{T, T-not}
 use Rattle.rules.specs.Lists.{Set, nothing}
 use Rattle.rules.specs.Tree.{Function}
 use Rattle.rules.specs.Graph.{successors}
-use Rattle.rules.specs.Demand3.{Path-to, onward}
+use Rattle.rules.specs.Demand3.{PathTo, onward}
 use Rattle.lists.specs.Sets.{insert, insert-elim, insert-here, insert-there}
 use Rattle.lists.specs.Members.{find}
 use Rattle.lists.specs.Members.{_∈_, here, there, not-∈-nil, ∈-elim}
@@ -53,7 +53,7 @@ sound-nodup h = Pairwise·imp (λ x y undominated same. undominated (λ passed p
 
 -- To enter a new block, between those done and those on the path to it, keeps a line sound.
 pub entering-sound :
-    {f : Function} {b : ℕ} {passed : List ℕ} → Path-to f b passed → (s : Stage) → T (not (s .entered b))
+    {f : Function} {b : ℕ} {passed : List ℕ} → PathTo f b passed → (s : Stage) → T (not (s .entered b))
     → Sound f (s .entered) (line s passed) → Sound f (entering b s .entered) (line s (b ∷ passed))
 entering-sound {f} {b} {passed} p s new h =
     record {
@@ -116,7 +116,7 @@ entering-sound {f} {b} {passed} p s new h =
 
 -- A walk along edges that go on from a path keeps its line sound.
 pub walks-sound :
-    {f : Function} {s r : Stage} {ts passed : List ℕ} → Walks f s ts r → ((t : ℕ) → t ∈ ts → Path-to f t passed)
+    {f : Function} {s r : Stage} {ts passed : List ℕ} → Walks f s ts r → ((t : ℕ) → t ∈ ts → PathTo f t passed)
     → Sound f (s .entered) (line s passed) → Sound f (r .entered) (line r passed)
 walks-sound finished p h = h
 walks-sound (skips y w) p h = walks-sound w (λ x m. p x (there m)) h

@@ -12,7 +12,7 @@ use Rattle.rules.specs.Lists.{has, Set}
 use Rattle.rules.specs.Tree.{Function}
 use Rattle.rules.specs.Graph.{successors, reachable}
 use Rattle.rules.specs.Refusals.{numbersInFile}
-use Rattle.rules.specs.Demand3.{Path-to, start, onward}
+use Rattle.rules.specs.Demand3.{PathTo, start, onward}
 use Rattle.lists.specs.Tests.{test-elim, if-elim}
 use Rattle.lists.specs.Sets.{insert, insert-there}
 use Rattle.lists.specs.Members.{_∈_, here, there}
@@ -135,7 +135,7 @@ blocksOn stack = map (λ frame. frame .block) stack
 abbrev pub Stacked : Function → List Frame → Type 0
 Stacked f [] = Unit {0}
 Stacked f (top ∷ below) =
-    Path-to f (top .block) (blocksOn below) × ((t : ℕ) → t ∈ top .edges → t ∈ successors f (top .block))
+    PathTo f (top .block) (blocksOn below) × ((t : ℕ) → t ∈ top .edges → t ∈ successors f (top .block))
     × Stacked f below
 
 -- The stack is a path, and the line of the blocks done and the blocks on the stack is sound.
@@ -145,7 +145,7 @@ pub record Kept (f : Function) (m : Machine) : Type 0 where
 
 -- a new block that the path goes on to keeps that
 push-kept :
-    (f : Function) {b : ℕ} {stack : List Frame} {s : Stage} → Path-to f b (blocksOn stack) → T (not (s .entered b))
+    (f : Function) {b : ℕ} {stack : List Frame} {s : Stage} → PathTo f b (blocksOn stack) → T (not (s .entered b))
     → Kept f (record { stack = stack; stage = s }) → Kept f (push f b stack s)
 push-kept f {s = s} p n h = record { stacked = (p, λ t m. m, h .stacked); sound = entering-sound p s n (h .sound) }
 

@@ -7,21 +7,21 @@ use mathlib.Core.List.{List, [], _∷_, map}
 use lib.ListN.{length, List·getD-eq-default}
 use Rattle.rules.specs.Tree.{Block, Function}
 use Rattle.rules.specs.Graph.{edgesOut, successors}
-use Rattle.rules.specs.Demand3.{Path-to, start, onward}
+use Rattle.rules.specs.Demand3.{PathTo, start, onward}
 use Rattle.lists.specs.Members.{_∈_, here, there, not-∈-nil, ∈-elim}
 
 -- d dominates b: every path to b passes d, or d is b
 abbrev pub Dominates : Function → ℕ → ℕ → Type 0
-Dominates f d b = (passed : List ℕ) → Path-to f b passed → d ∈ (b ∷ passed)
+Dominates f d b = (passed : List ℕ) → PathTo f b passed → d ∈ (b ∷ passed)
 
 -- d dominates b strictly: every path to b passes d
 abbrev pub StrictlyDominates : Function → ℕ → ℕ → Type 0
-StrictlyDominates f d b = (passed : List ℕ) → Path-to f b passed → d ∈ passed
+StrictlyDominates f d b = (passed : List ℕ) → PathTo f b passed → d ∈ passed
 
 -- a path to b, and something of every block that it passes
 pub record Path-along (f : Function) (P : ℕ → Type 0) (b : ℕ) : Type 0 where
   pub passed : List ℕ
-  pub path : Path-to f b passed
+  pub path : PathTo f b passed
   pub along : (x : ℕ) → x ∈ passed → P x
 
 module _ {f : Function} where
@@ -32,11 +32,11 @@ module _ {f : Function} where
 
   -- a path holds a path to each block that it passes
   pub path-to-passed :
-      {b : ℕ} {passed : List ℕ} → Path-to f b passed → {x : ℕ} → x ∈ passed → Path-along f (λ y. y ∈ passed) x
+      {b : ℕ} {passed : List ℕ} → PathTo f b passed → {x : ℕ} → x ∈ passed → Path-along f (λ y. y ∈ passed) x
   path-to-passed start m = absurd (not-∈-nil m)
   path-to-passed (onward {passed = passed} p s) m =
       ∈-elim
-      (λ e. record { passed = passed; path = subst (λ y. Path-to f y passed) (sym e) p; along = λ y k. there k })
+      (λ e. record { passed = passed; path = subst (λ y. PathTo f y passed) (sym e) p; along = λ y k. there k })
       (λ k. path-along-mono (λ y. there) (path-to-passed p k))
       m
 
@@ -52,7 +52,7 @@ module _ {f : Function} where
   pub dominates-source : {d b t : ℕ} → Dominates f d t → d ≢ t → t ∈ successors f b → Dominates f d b
   dominates-source {b = b} h other s passed p = ∈-elim (λ e. absurd (other e)) (λ m. m) (h (b ∷ passed) (onward p s))
 
-  module _ {b : ℕ} {passed : List ℕ} (p : Path-to f b passed) where
+  module _ {b : ℕ} {passed : List ℕ} (p : PathTo f b passed) where
     -- a block that is not on some path to b does not dominate b
     pub not-dominates : {d : ℕ} → d ≢ b → (d ∈ passed → ⊥) → ¬ Dominates f d b
     not-dominates other off h = ∈-elim other off (h passed p)

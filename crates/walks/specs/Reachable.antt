@@ -13,7 +13,7 @@ use lib.Dec.{ltb, ltb→lt, nltb→le}
 use Rattle.rules.specs.Lists.{foldl, has}
 use Rattle.rules.specs.Tree.{Function}
 use Rattle.rules.specs.Graph.{Walk, enter, successors, reachable}
-use Rattle.rules.specs.Demand3.{Path-to, start, onward}
+use Rattle.rules.specs.Demand3.{PathTo, start, onward}
 use Rattle.lists.specs.Tests.{test-elim, T-ext}
 use Rattle.lists.specs.Members.{has→∈, ∈→has}
 use Rattle.lists.specs.Members.{_∈_, here, not-∈-nil, ∈-elim, ∈-reverseAux, getD-∈}
@@ -27,7 +27,7 @@ module _ (f : Function) where
   unfolding reachable
   reachable-sound =
       walks-sound (walked-walks f)
-      (λ t m. subst (λ y. Path-to f y []) (sym (List·Memᴰ·eq-of-singleton m)) start)
+      (λ t m. subst (λ y. PathTo f y []) (sym (List·Memᴰ·eq-of-singleton m)) start)
       untouched-sound
 
   -- WHICH. Every block listed is at the end of a path from block 0, along other blocks listed.
@@ -49,7 +49,7 @@ module _ (f : Function) where
       reachable-sound .entered→∈ (walks-closed (walked-walks f) (λ x u k. absurd (not-∈-nil k)) b t done s)
 
   -- So every block at the end of a path from block 0 is listed.
-  pub path→reachable : {b : ℕ} {passed : List ℕ} → Path-to f b passed → b ∈ reachable f
+  pub path→reachable : {b : ℕ} {passed : List ℕ} → PathTo f b passed → b ∈ reachable f
   path→reachable start = zero-reachable
   path→reachable (onward p s) = reachable-closed (path→reachable p) s
 

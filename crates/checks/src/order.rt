@@ -1,0 +1,57 @@
+// Refusal 4: the order of records, words outside the table, and blocks numbered by their position.
+ghost use mathlib.Core.Path.{_≡_};
+ghost use Prim.Native.Nat.{_<_};
+ghost use Rattle.rules.specs.Records.{records};
+ghost use Rattle.rules.specs.File.{follows, ordered};
+use records::kind_of;
+use records::record_at;
+use rules::RECORD_BYTES;
+use rules::Record;
+
+// The kinds that may stand behind a kind, kind k at bit k; row 0 is the start of the file, and behind an output's kinds
+// nothing may stand.
+const FOLLOWERS: [u32; 16] = [
+    0b0000000110,
+    0b0000000110,
+    0b0000011000,
+    0b0000011000,
+    0b1011110100,
+    0b1010110100,
+    0b1011110100,
+    0b1110010100,
+    0b1110010100,
+    0b1000010100,
+    0,
+    0,
+    0,
+    0,
+    0,
+    0,
+];
+
+// Whether kind k may stand behind kind p, 0 for the start of the file.
+fn may_follow(p: u32, k: u32) -> bool
+    requires { ⌜ (p < 16) × (k < 16) ⌝ }
+    ensures { λ r. ⌜ r ≡ follows p k ⌝ }
+{
+    let row = FOLLOWERS[p as usize];
+    (row >> k) % 2 == 1
+}
+
+// Whether the records of a file are in order.
+pub fn in_order(s: &[u8]) -> bool
+    ensures { λ r. ⌜ r ≡ ordered 0 (records (now (s .entry))) ⌝ }
+{
+    let n = s.len() / RECORD_BYTES;
+    let mut p: u32 = 0;
+    let mut i: usize = 0;
+    while i < n {
+        let k = kind_of(record_at(s, i));
+        if !may_follow(p, k) {
+            return false;
+        }
+        p = k;
+        i += 1;
+    }
+    4 <= p
+}
