@@ -1,3 +1,4 @@
 pub mod Counting
+pub mod Numbering
 pub mod Ordering
 pub mod Table
