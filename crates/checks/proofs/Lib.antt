@@ -1,4 +1,5 @@
 pub mod Counting
+pub mod InFile
 pub mod Numbering
 pub mod Ordering
 pub mod Table
