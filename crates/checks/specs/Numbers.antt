@@ -138,7 +138,7 @@ module _ (values blocks : ℕ) (w : Words) where
   fit-argument h e z = subst (λ b. T (cond b (ltb (w .third) values) true)) (is-true (eqb (w .second) 0) z) (subst fitsAs (eqb→eq (w .kind) 8 e) h)
 
   -- of one of the kinds whose word 2 is a value
-  fit-value : T (numbersFit values blocks w) → (k : ℕ) → T (has k valueKinds) → T (eqb (w .kind) k) → T (ltb (w .second) values)
+  pub fit-value : T (numbersFit values blocks w) → (k : ℕ) → T (has k valueKinds) → T (eqb (w .kind) k) → T (ltb (w .second) values)
   unfolding numbersFit
   fit-value h k m e =
       let own : fitsAs k = subst fitsAs (eqb→eq (w .kind) k e) h in

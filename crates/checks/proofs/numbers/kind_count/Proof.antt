@@ -8,7 +8,7 @@ use Rattle.rules.specs.File.{ofKind}
 use lib.Dec.{eqb}
 use lib.ListN.{length}
 use native.Mathlib.Omega.{arith}
-use mathlib.Core.Path.{_≡_, sym, ap, _∙_}
+use mathlib.Core.Path.{_≡_, ap, _∙_}
 use Prim.Native.Nat.{_≤_, _+_, _-_}
 use Rattle.checks.proofs.numbers.kind_count.Statement.{statement}
 use Rattle.checks.proofs.numbers.kind_count.Tie as tie

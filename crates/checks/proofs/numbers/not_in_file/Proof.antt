@@ -8,7 +8,7 @@ use Rattle.rules.specs.Lists.{all}
 use borrow.Author.Tests.{not-true, not-false}
 use native.Mathlib.Omega.{arith}
 use mathlib.Core.Bool.{true, false, not, _&&_}
-use mathlib.Core.Path.{_≡_, refl, sym, ap, _∙_}
+use mathlib.Core.Path.{_≡_, sym, ap, _∙_}
 use Prim.Native.Nat.{_≤_, _+_, _-_}
 use Rattle.checks.proofs.numbers.not_in_file.Statement.{statement}
 use Rattle.checks.proofs.numbers.not_in_file.Tie as tie

@@ -1,8 +1,7 @@
 -- `checks::numbers::numbers_fit` meets its contract.
 use Rattle.checks.specs.Numbers.{numbersFit}
 use borrow.Author.Tests.{ne-eqb}
-use mathlib.Core.Bool.{true, false}
-use mathlib.Core.Path.{_≡_, sym, ap, _∙_}
+use mathlib.Core.Path.{_≡_, sym, _∙_}
 use borrow.Author.Needs.{needs}
 use Rattle.checks.proofs.numbers.numbers_fit.Statement.{statement}
 use Rattle.checks.proofs.numbers.numbers_fit.Tie as tie
