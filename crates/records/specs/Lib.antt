@@ -3,3 +3,5 @@ pub mod Places
 pub mod Reading
 pub mod InOrder
 pub mod Parts
+pub mod Leading
+pub mod Values
