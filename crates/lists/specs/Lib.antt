@@ -5,3 +5,4 @@ pub mod Maps
 pub mod Counts
 pub mod Lack
 pub mod Alls
+pub mod Truths
