@@ -1,4 +1,6 @@
 pub mod Counting
+pub mod FittingCases
 pub mod Numbering
 pub mod Ordering
+pub mod StandingCases
 pub mod Table

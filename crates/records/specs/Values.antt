@@ -32,6 +32,17 @@ noValue = record { size = 0; marked = false }
 abbrev pub valueIn : Record → Value
 valueIn r = elim (eqb (kind r) 1) [ true ↦ valueOf (encode r) | false ↦ noValue ]
 
+-- the size that four words give
+abbrev pub sizeIn : Words → ℕ
+sizeIn w = elim (eqb (w .kind) 1) [ true ↦ w .second | false ↦ 0 ]
+
+size-in : (r : Record) → valueIn r .size ≡ sizeIn (encode r)
+size-in r = go (eqb (kind r) 1)
+  where
+    go : (b : Bool) → elim b as (λ _. Value) [ true ↦ valueOf (encode r) | false ↦ noValue ] .size ≡ elim b [ true ↦ encode r .second | false ↦ 0 ]
+    go true = refl
+    go false = refl
+
 no-value : (rs : List Record) → Kinds (λ j. not (eqb j 1)) rs → (v : ℕ) → valueIn (getD rs v record′.Outside) ≡ noValue
 no-value [] h v = refl
 no-value (r ∷ rs) h zero = left-out (eqb (kind r) 1) (valueOf (encode r)) noValue (and-left (not (eqb (kind r) 1)) (all (λ x. not (eqb (kind x) 1)) rs) h)
@@ -167,6 +178,11 @@ module _ (k a b c : ℕ) where
 
 -- THE LAWS, of a file in order.
 module _ (s : List ℕ) (h : T (ordered 0 (records s))) where
+  pub size-in-place : (v : ℕ) → sizeOf (functionIn s) v ≡ sizeIn (encode (getD (records s) v record′.Outside))
+  unfolding function
+  size-in-place v =
+      ap (λ x. x .size) (values-at 0 (records s) tt (ordered-chain 0 (records s) h) v) ∙ size-in (getD (records s) v record′.Outside)
+
   pub value-in-place : (v : ℕ) → v < recordCount s → valueAt (functionIn s) v ≡ valueIn (recordAt s v)
   unfolding function
   value-in-place v l = values-at 0 (records s) tt (ordered-chain 0 (records s) h) v ∙ ap valueIn (record-there s v l)
