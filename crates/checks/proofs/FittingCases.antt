@@ -1,6 +1,6 @@
 -- Edge arguments and parameters from places on, one record more; the blocks of a file from a place on, one record more.
 use Prim.Native.Nat.{ℕ, zero, suc, _+_, _-_, _<_, _≤_}
-use mathlib.Core.Path.{_≡_, refl, sym, ap, ap₂, subst, _∙_}
+use mathlib.Core.Path.{_≡_, refl, sym, ap, ap₂, _∙_}
 use mathlib.Core.Bool.{Bool, true, false, not, _&&_, _||_, cond}
 use mathlib.Core.List.{List, [], _∷_, map}
 use native.Mathlib.Omega.{arith}
@@ -9,7 +9,7 @@ use lib.Dec.{T, eqb, ltb, eqb→eq, ltb→lt, nltb→le}
 use borrow.Author.Tests.{eq-eqb, ne-eqb}
 use Rattle.rules.specs.Tree.{Block, Function}
 use Rattle.rules.specs.Records.{bit, encode, kind, recordAt, recordCount, records}
-use Rattle.rules.specs.File.{ordered, cut, blockOf, function, functionIn}
+use Rattle.rules.specs.File.{ordered, cut, blockOf, function}
 use Rattle.rules.specs.Graph.{blockAt, sizeOf}
 use Rattle.rules.specs.Refusals.{fit}
 use Rattle.rules.specs.declared.EdgeArgument.{EdgeArgument}

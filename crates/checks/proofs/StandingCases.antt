@@ -1,15 +1,15 @@
 -- Which record may stand where, kind by kind, and the reading of a file from a place on, one record more.
 use Prim.Native.Nat.{ℕ, _+_, _<_}
-use mathlib.Core.Path.{_≡_, refl, sym, ap, ap₂, _∙_}
-use mathlib.Core.Bool.{Bool, true, false, not, _&&_, _||_, cond, and-true}
+use mathlib.Core.Path.{_≡_, sym, ap, _∙_}
+use mathlib.Core.Bool.{Bool, true, false, not, _&&_, _||_, and-true}
 use mathlib.Core.List.{List}
-use lib.Dec.{T, eqb, ltb, leb, ltb→lt, nltb→le}
-use borrow.Author.Tests.{lt-ltb, le-ltb, le-leb, lt-leb, ne-eqb}
+use lib.Dec.{eqb, ltb, ltb→lt, nltb→le}
+use borrow.Author.Tests.{lt-ltb, le-ltb, le-leb, lt-leb}
 use Rattle.rules.specs.Records.{isTerminator, words, encode, recordAt, recordCount}
 use Rattle.rules.specs.declared.Words.{Words}
 use Rattle.lists.specs.Tests.{test-elim}
 use Rattle.records.specs.Places.{rest, rest-next}
-use Rattle.checks.specs.Standing.{safepointFlags, only, mayStand, flagsBehind, standing}
+use Rattle.checks.specs.Standing.{safepointFlags, mayStand, flagsBehind, standing}
 
 -- no terminator: the flags are below 2
 pub not-terminator : (flags : ℕ) → ltb flags 2 ≡ not (isTerminator flags)

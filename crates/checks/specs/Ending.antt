@@ -4,8 +4,8 @@ use mathlib.Core.Path.{_≡_, refl, sym, ap, ap₂, _∙_}
 use mathlib.Core.Bool.{Bool, true, false, not, _&&_, _||_, cond, and-true}
 use mathlib.Core.List.{List, [], _∷_, map}
 use lib.Dec.{T, T-not, not-T, eqb, eqb→eq}
-use Rattle.rules.specs.Lists.{all, has}
-use Rattle.rules.specs.Tree.{Instruction, Block}
+use Rattle.rules.specs.Lists.{all}
+use Rattle.rules.specs.Tree.{Instruction}
 use Rattle.rules.specs.Records.{isTerminator, encode, kind}
 use Rattle.rules.specs.File.{ordered, Section, Cut, cut, instructionOf, opensItem, blockOf, function}
 use Rattle.rules.specs.Graph.{instructionsOf}
@@ -16,7 +16,7 @@ use Rattle.lists.specs.Alls.{all-map, all-where}
 use Rattle.records.specs.Kinds.{Kinds}
 use Rattle.records.specs.InOrder.{cut-keeps}
 use Rattle.records.specs.Parts.{inBlock, in-block, blockBody, isBlock, isBlock-body, file-blocks, front-values, block-instructions-are}
-use Rattle.checks.specs.Standing.{only, endsThere, flagsBehind, reading, ending, behind-other, reading-cut, reading-idle}
+use Rattle.checks.specs.Standing.{endsThere, flagsBehind, ending, behind-other, reading-cut, reading-idle}
 
 -- in a block only instructions open an item
 pub cut-instructions : (body : List Record) → Kinds inBlock body → cut opensItem body ≡ cut (eqb 4) body

@@ -6,9 +6,9 @@ use mathlib.Core.Bool.{Bool, true, false, not, _&&_, _||_, and-assoc, and-true}
 use mathlib.Core.List.{List, [], _∷_, map}
 use lib.Dec.{T, eqb, eqb→eq}
 use Rattle.rules.specs.Lists.{all}
-use Rattle.rules.specs.Tree.{Edge, Instruction, Block, Function}
+use Rattle.rules.specs.Tree.{Edge, Instruction, Function}
 use Rattle.rules.specs.Records.{encode, kind}
-use Rattle.rules.specs.File.{ordered, Section, Cut, cut, ofKind, edgeOf, edgesOf, instructionOf, opensItem, blockOf, function}
+use Rattle.rules.specs.File.{ordered, Section, Cut, cut, edgeOf, instructionOf, opensItem, blockOf, function}
 use Rattle.rules.specs.Graph.{blockAt, sizeOf, instructionsOf}
 use Rattle.rules.specs.Refusals.{allInstructions, fit}
 use Rattle.rules.specs.declared.EdgeArgument.{EdgeArgument}
@@ -20,7 +20,7 @@ use Rattle.lists.specs.Maps.{all-and}
 use Rattle.lists.specs.Alls.{all-where, all-map}
 use Rattle.records.specs.Kinds.{Kinds, kinds-weaken}
 use Rattle.records.specs.InOrder.{chain, whole, opened, cut-opened, chained, cut-chained, cut-kinds}
-use Rattle.records.specs.Parts.{inBody, isInstruction, head-instruction, body-chained, body-allowed, blockBody, front-parameters, isBlock, isBlock-body, front-values, second, argument}
+use Rattle.records.specs.Parts.{inBody, isInstruction, head-instruction, body-chained, body-allowed, front-parameters, isBlock, isBlock-body, front-values, second, argument}
 use Rattle.records.specs.Leading.{leading, leading-cut, arguments-lead, parameters-lead}
 use Rattle.checks.specs.Standing.{only}
 use Rattle.checks.specs.Holding.{all-in-block, all-in-file}

@@ -1,6 +1,6 @@
 -- What an instruction may have by its flags, read off the records of a file in order: results, edges, contexts, and what
 -- its edges pass.
-use Prim.Native.Nat.{ℕ, zero, suc, _≤_}
+use Prim.Native.Nat.{ℕ, suc, _≤_}
 use mathlib.Core.Path.{_≡_, refl, sym, ap, ap₂, _∙_}
 use mathlib.Core.Bool.{Bool, true, false, not, _&&_, _||_, cond, and-true}
 use mathlib.Core.List.{List, [], _∷_, map}
@@ -8,8 +8,8 @@ use native.Mathlib.Omega.{arith}
 use lib.ListN.{length}
 use lib.Dec.{T, eqb, eqb→eq, eqb·suc-suc}
 use borrow.Author.Tests.{ne-eqb}
-use Rattle.rules.specs.Lists.{all, empty, concatMap}
-use Rattle.rules.specs.Tree.{Edge, Instruction, Block}
+use Rattle.rules.specs.Lists.{all, empty}
+use Rattle.rules.specs.Tree.{Edge, Instruction}
 use Rattle.rules.specs.Records.{isSafepoint, isTerminator, edgeArgument, encode, kind}
 use Rattle.rules.specs.File.{ordered, Section, cut, ofKind, named, edgeOf, edgesOf, instructionOf, opensItem, blockOf, function}
 use Rattle.rules.specs.Graph.{instructionsOf, valuesAmong}
@@ -21,10 +21,9 @@ use Rattle.rules.specs.declared.Record.{Record}
 use Rattle.lists.specs.Tests.{and-intro, and-left, and-right, differ, passes-at}
 use Rattle.lists.specs.Truths.{agree, agree-same, every, every-at}
 use Rattle.lists.specs.Alls.{all-where, all-same, all-both, all-either, all-constant, all-map, all-concatMap, empty-map}
-use Rattle.records.specs.Kinds.{Kinds, kinds-weaken}
-use Rattle.records.specs.InOrder.{Sections}
+use Rattle.records.specs.Kinds.{kinds-weaken}
 use Rattle.records.specs.Parts.{inBlock, in-block, inBody, isInstruction, body-allowed, blockBody, block-instructions, block-instructions-are, front-parameters, isBlock, isBlock-body, file-blocks, front-values, cut-heads, argument, targets-picked, passed-picked}
-use Rattle.checks.specs.Standing.{safepointFlags, only, hasThere, flagsBehind, always, reading, holding, reading-cut, reading-steady, reading-idle}
+use Rattle.checks.specs.Standing.{safepointFlags, only, hasThere, flagsBehind, always, holding, reading-cut, reading-steady, reading-idle}
 use Rattle.checks.specs.Ending.{cut-instructions}
 
 -- what refusal 7 says of an instruction, but for whether its edges fit their targets

@@ -4,13 +4,13 @@ use mathlib.Core.Bool.{Bool, not, _&&_, _||_, cond, and-assoc}
 use mathlib.Core.List.{List}
 use lib.Dec.{T, eqb}
 use Rattle.rules.specs.Lists.{all, empty}
-use Rattle.rules.specs.Tree.{Edge, Instruction, Block, Function}
+use Rattle.rules.specs.Tree.{Edge, Instruction, Function}
 use Rattle.rules.specs.File.{ordered, function}
 use Rattle.rules.specs.Graph.{blockAt, instructionsOf}
 use Rattle.rules.specs.Refusals.{allInstructions, endsOnce, fit, safepointTerminator, onlyValues, soundInstruction, sound}
 use Rattle.rules.specs.declared.Record.{Record}
 use Rattle.lists.specs.Alls.{all-same, all-both}
-use Rattle.checks.specs.Standing.{standing, standing-both, ending, holding}
+use Rattle.checks.specs.Standing.{standing, standing-both}
 use Rattle.checks.specs.Ending.{ending-blocks}
 use Rattle.checks.specs.Holding.{shaped, holding-instructions}
 use Rattle.checks.specs.Fitting.{fitting, edgesFit, fitting-instructions}

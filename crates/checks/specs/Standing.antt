@@ -1,16 +1,16 @@
 -- Refusal 7 but for what edges pass, as one reading of a file's records: which record may stand where, by the flags of the
 -- instruction that stands last in front of it.
-use Prim.Native.Nat.{ℕ, _%_}
+use Prim.Native.Nat.{ℕ}
 use mathlib.Core.Path.{_≡_, refl, sym, ap, ap₂, subst, _∙_}
-use mathlib.Core.Bool.{Bool, true, false, not, _&&_, _||_, cond, and-true, and-assoc}
+use mathlib.Core.Bool.{Bool, true, not, _&&_, _||_, cond, and-true, and-assoc}
 use mathlib.Core.List.{List, [], _∷_}
 use lib.Dec.{T, eqb, eqb→eq}
 use Rattle.rules.specs.Lists.{all}
 use Rattle.rules.specs.Records.{isSafepoint, isTerminator, encode, kind}
-use Rattle.rules.specs.File.{Section, cut}
+use Rattle.rules.specs.File.{cut}
 use Rattle.rules.specs.declared.Words.{Words}
 use Rattle.rules.specs.declared.Record.{Record}
-use Rattle.lists.specs.Tests.{and-left, and-right, T-and, is-false}
+use Rattle.lists.specs.Tests.{T-and, is-false}
 use Rattle.lists.specs.Alls.{and-swap}
 use Rattle.records.specs.Kinds.{Kinds}
 use Rattle.records.specs.InOrder.{cut-keeps}

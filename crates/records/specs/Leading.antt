@@ -3,7 +3,7 @@
 use Prim.Native.Nat.{ℕ, zero, suc, _+_, _<_}
 use mathlib.Core.Path.{_≡_, refl, sym, ap, subst, _∙_}
 use mathlib.Core.Bool.{Bool, true, false, not, _&&_, _||_}
-use mathlib.Core.List.{List, [], _∷_, map}
+use mathlib.Core.List.{List, [], _∷_}
 use native.Mathlib.Omega.{arith}
 use native.Mathlib.Numerals.{add-one}
 use lib.ListN.{getD}
@@ -11,12 +11,11 @@ use lib.Dec.{T, T-not, eqb, eqb→eq}
 use Rattle.rules.specs.Lists.{all, has}
 use Rattle.rules.specs.Records.{encode, kind, recordAt, recordCount, records}
 use Rattle.rules.specs.declared.Words.{Words}
-use Rattle.rules.specs.File.{followers, follows, ordered, Section, cut, ofKind, opensItem}
+use Rattle.rules.specs.File.{followers, follows, ordered, cut, ofKind}
 use Rattle.rules.specs.declared.Record.{Record}
-use Rattle.lists.specs.Tests.{test-elim, and-left, and-right, and-intro, or-then, or-elim, T-and, differ, chosen, left-out, passes-at}
-use Rattle.lists.specs.Maps.{all-and}
+use Rattle.lists.specs.Tests.{test-elim, and-left, and-right, or-then, or-elim, T-and, differ, chosen, left-out, passes-at}
 use Rattle.records.specs.Kinds.{Kinds, ofKind-none}
-use Rattle.records.specs.Places.{rest, rest-more, rest-next, rest-all}
+use Rattle.records.specs.Places.{rest, rest-more, rest-all}
 use Rattle.records.specs.InOrder.{chain, ordered-chain, cut-keeps, keptBy, chain-good}
 use Rattle.records.specs.Parts.{blockBody, inBody}
 

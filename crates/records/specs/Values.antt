@@ -9,13 +9,13 @@ use lib.Dec.{T, T-not, leb, ltb, eqb, eqb→eq, ltb→lt, nltb→le}
 use Rattle.rules.specs.Limits.{recordBytes}
 use Rattle.rules.specs.Lists.{all, has}
 use Rattle.rules.specs.Tree.{Value}
-use Rattle.rules.specs.Records.{wordAt, bit, slotSizes, log2, isSafepoint, isTerminator, edgeArgument, encode, kind, decode, recordAt, recordCount, eachFrom, records}
+use Rattle.rules.specs.Records.{wordAt, slotSizes, log2, isSafepoint, isTerminator, edgeArgument, encode, kind, decode, recordAt, recordCount, eachFrom, records}
 use Rattle.rules.specs.File.{followers, follows, ordered, ofKind, function, functionIn}
 use Rattle.rules.specs.Graph.{valueAt, sizeOf, isMarked}
 use Rattle.rules.specs.declared.Words.{Words}
 use Rattle.rules.specs.declared.Record.{Record}
 use Rattle.rules.specs.declared.Record.the-variants as record′
-use Rattle.lists.specs.Tests.{test-elim, if-elim, and-left, and-right, and-intro, or-elim, or-left, passes-at, chosen, left-out}
+use Rattle.lists.specs.Tests.{test-elim, and-left, and-right, and-intro, or-elim, or-left, passes-at, chosen, left-out}
 use Rattle.records.specs.Kinds.{Kinds, kind-edgeArgument, ofKind-none}
 use Rattle.records.specs.Places.{rest, rest-more, rest-all}
 use Rattle.records.specs.InOrder.{chain, ordered-chain, keptBy, chain-good}

@@ -5,11 +5,9 @@ use Rattle.checks.specs.Fitting.{parametersFirst}
 use Rattle.records.specs.Places.{rest, rest-all}
 use Rattle.rules.specs.Graph.{blockAt}
 use Rattle.rules.specs.File.{function, functionIn}
-use Rattle.rules.specs.Records.{recordCount, records, recordAt, kind, bit}
+use Rattle.rules.specs.Records.{recordCount, recordAt, kind, bit}
 use native.Mathlib.Omega.{arith}
-use mathlib.Core.Path.{_≡_, refl, sym, ap, subst, _∙_}
-use mathlib.Core.List.{List, [], _∷_}
-use mathlib.Core.Bool.{true, false}
+use mathlib.Core.Path.{_≡_, sym, ap, subst, _∙_}
 use lib.Dec.{T, eqb}
 use Prim.Native.Nat.{_≤_, _-_, _+_}
 use Rattle.checks.proofs.fitting.behind_block.Statement.{statement}
@@ -39,10 +37,10 @@ add-result c = search needs
 returns : tie.Need-returns Inv-loop μ-loop
 returns c =
     let s = c .before .before .before .before .before .before .before .args .s .now in
-    let i = c .before .before .before .before .before .loop .i in
-    let here : c .before .one-if-same .result ≡ bit (eqb 2 (kind (recordAt s i))) =
+    let at = c .before .before .before .before .before .loop in
+    let here : c .before .one-if-same .result ≡ bit (eqb 2 (kind (recordAt s (at .i)))) =
     c .before .one-if-same .ensures ∙ ap (λ k. bit (eqb 2 k)) (c .before .before .kind-of .ensures .0 ∙ ap kind (c .before .before .before .record-at .ensures)) in
-    (search needs, block-here s i (c .before .before .before .before .before .loop .left) (search needs) (subst (λ x. T x) (sym (c .before .before .before .before .before .before .before .pre)) tt) (omega arith) ∙ ap (λ x. x .parameters) (c .before .before .before .before .before .loop .inv .1))
+    (search needs, block-here s (at .i) (at .left) (search needs) (subst (λ x. T x) (sym (c .before .before .before .before .before .before .before .pre)) tt) (omega arith) ∙ ap (λ x. x .parameters) (at .inv .1))
 
 add-i : tie.Need-add-i Inv-loop μ-loop
 add-i c = search needs
@@ -53,19 +51,22 @@ loop-less c = search needs
 loop-again : tie.Need-loop-again Inv-loop μ-loop
 loop-again c =
     let s = c .before .before .before .before .before .before .before .args .s .now in
-    let i = c .before .before .before .before .before .loop .i in
-    let here : c .before .one-if-same .result ≡ bit (eqb 2 (kind (recordAt s i))) =
-    c .before .one-if-same .ensures ∙ ap (λ k. bit (eqb 2 k)) (c .before .before .kind-of .ensures .0 ∙ ap kind (c .before .before .before .record-at .ensures)) in
-    (search needs, ap (λ x. blockAt (function (rest s (i + 1))) (c .before .before .before .before .before .loop .left - x)) here ∙ sym (block-next s i (c .before .before .before .before .before .loop .left) (search needs) (omega arith)) ∙ c .before .before .before .before .before .loop .inv .1)
+    let at = c .before .before .before .before .before .loop in
+    let here : c .before .one-if-same .result ≡ bit (eqb 2 (kind (recordAt s (at .i)))) =
+    c .before .one-if-same .ensures ∙ ap (λ k. bit (eqb 2 k)) (c .before .before .kind-of .ensures .0 ∙ ap kind (c .before .before .before .record-at .ensures)) in (
+      search needs,
+      ap (λ x. blockAt (function (rest s (at .i + 1))) (at .left - x)) here ∙ sym (block-next s (at .i) (at .left) (search needs) (omega arith)) ∙ at .inv .1,
+    )
 
 returns-2 : tie.Need-returns-2 Inv-loop μ-loop
 unfolding function
 returns-2 c =
     let s = c .before .before .before .args .s .now in
-    let none = rest-end s (c .before .loop .i) (c .before .loop .inv .0) (search needs) in (
+    let at = c .before .loop in
+    let none = rest-end s (at .i) (at .inv .0) (search needs) in (
       search needs,
-      ap parametersFirst (rest-end s (recordCount s) (omega arith) (omega arith)) ∙ sym (ap (λ rs. blockAt (function rs) (c .before .loop .left) .parameters) none)
-          ∙ ap (λ x. x .parameters) (c .before .loop .inv .1),
+      ap parametersFirst (rest-end s (recordCount s) (omega arith) (omega arith)) ∙ sym (ap (λ rs. blockAt (function rs) (at .left) .parameters) none)
+          ∙ ap (λ x. x .parameters) (at .inv .1),
     )
 
 pub behind-block-spec : {M : Type 1} → statement M

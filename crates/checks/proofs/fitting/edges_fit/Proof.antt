@@ -1,14 +1,13 @@
 -- `checks::fitting::edges_fit` meets its contract.
 use borrow.Author.Needs.{needs}
 use Rattle.checks.proofs.FittingCases.{rest-end}
-use Rattle.checks.specs.Fitting.{edgeFits, fitting}
+use Rattle.checks.specs.Fitting.{fitting}
 use Rattle.records.specs.Places.{rest, rest-all, rest-next}
 use Rattle.rules.specs.File.{functionIn}
-use Rattle.rules.specs.Records.{recordCount, records, recordAt}
+use Rattle.rules.specs.Records.{recordCount, records}
 use borrow.Author.Tests.{not-true, not-false}
-use native.Mathlib.Omega.{arith}
 use mathlib.Core.Path.{_≡_, sym, ap, _∙_}
-use mathlib.Core.Bool.{true, false, _&&_}
+use mathlib.Core.Bool.{_&&_}
 use Prim.Native.Nat.{_≤_, _-_, _+_}
 use Rattle.checks.proofs.fitting.edges_fit.Statement.{statement}
 use Rattle.checks.proofs.fitting.edges_fit.Tie as tie

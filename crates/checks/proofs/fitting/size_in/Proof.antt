@@ -1,6 +1,6 @@
 -- `checks::fitting::size_in` meets its contract.
 use mathlib.Core.Bool.{true, false}
-use mathlib.Core.Path.{_≡_, sym, ap}
+use mathlib.Core.Path.{sym, ap}
 use borrow.Author.Tests.{eq-eqb, ne-eqb}
 use Rattle.checks.proofs.fitting.size_in.Statement.{statement}
 use Rattle.checks.proofs.fitting.size_in.Tie as tie

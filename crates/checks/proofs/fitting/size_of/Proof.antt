@@ -1,7 +1,6 @@
 -- `checks::fitting::size_of` meets its contract.
 use Rattle.records.specs.Values.{sizeIn, size-in-place}
-use Rattle.rules.specs.Records.{records}
-use mathlib.Core.Path.{_≡_, sym, ap, subst, _∙_}
+use mathlib.Core.Path.{sym, ap, subst, _∙_}
 use lib.Dec.{T}
 use borrow.Author.Needs.{needs}
 use Rattle.checks.proofs.fitting.size_of.Statement.{statement}

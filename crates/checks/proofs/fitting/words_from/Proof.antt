@@ -1,8 +1,7 @@
 -- `checks::fitting::words_from` meets its contract.
 use Rattle.records.specs.Values.{record-there, record-beyond}
 use Rattle.rules.specs.Records.{encode}
-use mathlib.Core.Path.{_≡_, sym, ap, _∙_}
-use lib.ListN.{getD}
+use mathlib.Core.Path.{sym, ap, _∙_}
 use borrow.Author.Needs.{needs}
 use Rattle.checks.proofs.fitting.words_from.Statement.{statement}
 use Rattle.checks.proofs.fitting.words_from.Tie as tie

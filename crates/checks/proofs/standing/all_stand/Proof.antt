@@ -6,7 +6,7 @@ use Rattle.records.specs.Places.{rest, rest-all, restBy-done}
 use Rattle.rules.specs.Records.{recordCount, records, recordAt, encode}
 use borrow.Author.Tests.{not-true, not-false}
 use native.Mathlib.Omega.{arith}
-use mathlib.Core.Path.{_≡_, sym, ap, ap₂, _∙_}
+use mathlib.Core.Path.{_≡_, sym, ap, _∙_}
 use mathlib.Core.Bool.{true, false, _&&_}
 use Prim.Native.Nat.{_≤_, _-_, _+_}
 use Rattle.checks.proofs.standing.all_stand.Statement.{statement}
@@ -35,10 +35,11 @@ returns c =
     let s = c .before .before .before .before .before .before .before .args .s .now in
     let i = c .before .before .before .before .before .loop .i in
     let f = c .before .before .before .before .before .loop .flags in
-    let w : c .before .before .words-of .result ≡ encode (recordAt s i) = c .before .before .words-of .ensures ∙ ap encode (c .before .before .before .record-at .ensures) in
-    let no : mayStand f (encode (recordAt s i)) ≡ false =
-    ap (mayStand f) (sym w) ∙ sym (c .before .may-stand .ensures) ∙ not-true (c .before .may-stand .result) (c .if1 .taken) in
-    sym (ap (λ b. b && standing (flagsBehind f (encode (recordAt s i))) (rest s (i + 1))) no) ∙ sym (standing-next s f i (search needs)) ∙ c .before .before .before .before .before .loop .inv .1
+    let may = c .before .may-stand in
+    let w = encode (recordAt s i) in
+    let read : c .before .before .words-of .result ≡ w = c .before .before .words-of .ensures ∙ ap encode (c .before .before .before .record-at .ensures) in
+    let no : mayStand f w ≡ false = ap (mayStand f) (sym read) ∙ sym (may .ensures) ∙ not-true (may .result) (c .if1 .taken) in
+    sym (ap (λ b. b && standing (flagsBehind f w) (rest s (i + 1))) no) ∙ sym (standing-next s f i (search needs)) ∙ c .before .before .before .before .before .loop .inv .1
 
 flags-behind-requires : tie.Need-flags-behind-requires Inv-loop μ-loop
 flags-behind-requires c κs = search needs
@@ -54,12 +55,13 @@ loop-again c =
     let s = c .before .before .before .before .before .before .before .before .args .s .now in
     let i = c .before .before .before .before .before .before .loop .i in
     let f = c .before .before .before .before .before .before .loop .flags in
-    let w : c .before .before .before .words-of .result ≡ encode (recordAt s i) = c .before .before .before .words-of .ensures ∙ ap encode (c .before .before .before .before .record-at .ensures) in
-    let yes : mayStand f (encode (recordAt s i)) ≡ true =
-    ap (mayStand f) (sym w) ∙ sym (c .before .before .may-stand .ensures) ∙ not-false (c .before .before .may-stand .result) (c .before .if1 .left) in
-    let next : c .flags-behind .result ≡ flagsBehind f (encode (recordAt s i)) = c .flags-behind .ensures ∙ ap (flagsBehind f) w in (
+    let may = c .before .before .may-stand in
+    let w = encode (recordAt s i) in
+    let read : c .before .before .before .words-of .result ≡ w = c .before .before .before .words-of .ensures ∙ ap encode (c .before .before .before .before .record-at .ensures) in
+    let yes : mayStand f w ≡ true = ap (mayStand f) (sym read) ∙ sym (may .ensures) ∙ not-false (may .result) (c .before .if1 .left) in
+    let next : c .flags-behind .result ≡ flagsBehind f w = c .flags-behind .ensures ∙ ap (flagsBehind f) read in (
       search needs,
-      ap (λ x. standing x (rest s (i + 1))) next ∙ sym (ap (λ b. b && standing (flagsBehind f (encode (recordAt s i))) (rest s (i + 1))) yes)
+      ap (λ x. standing x (rest s (i + 1))) next ∙ sym (ap (λ b. b && standing (flagsBehind f w) (rest s (i + 1))) yes)
           ∙ sym (standing-next s f i (search needs)) ∙ c .before .before .before .before .before .before .loop .inv .1,
     )
 

@@ -3,7 +3,7 @@ use borrow.Author.Needs.{needs}
 use mathlib.Core.Path.{_≡_}
 use Rattle.checks.specs.Standing.{flagsBehind}
 use native.Mathlib.Omega.{arith}
-use borrow.Author.Tests.{eq-eqb, ne-eqb}
+use borrow.Author.Tests.{ne-eqb}
 use Rattle.checks.proofs.standing.flags_behind.Statement.{statement}
 use Rattle.checks.proofs.standing.flags_behind.Tie as tie
 

@@ -1,6 +1,5 @@
 -- `checks::standing::is_safepoint_terminator` meets its contract.
 use Prim.Native.Nat.{_%_}
-use mathlib.Core.Path.{_≡_}
 use borrow.Author.Tests.{eq-eqb, ne-eqb}
 use Rattle.checks.proofs.standing.is_safepoint_terminator.Statement.{statement}
 use Rattle.checks.proofs.standing.is_safepoint_terminator.Tie as tie

@@ -2,7 +2,7 @@
 use Rattle.checks.proofs.StandingCases.{not-terminator, stand-block, stand-instruction, stand-result, stand-edge, stand-argument, stand-context, stand-other}
 use Rattle.checks.specs.Standing.{safepointFlags}
 use mathlib.Core.Path.{_≡_, sym, ap, _∙_}
-use mathlib.Core.Bool.{true, false, not, _&&_, _||_, or-true, or-false}
+use mathlib.Core.Bool.{not, _&&_, _||_, or-true, or-false}
 use lib.Dec.{eqb}
 use native.Mathlib.Omega.{arith}
 use borrow.Author.Tests.{eq-eqb, ne-eqb, lt-leb, le-leb}
