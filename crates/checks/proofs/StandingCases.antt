@@ -20,37 +20,37 @@ not-terminator flags =
 
 module _ (flags : ℕ) (w : Words) where
   -- the words with another kind
-  abbrev kindly : ℕ → Words
-  kindly k = words k (w .second) (w .third) (w .fourth)
+  abbrev withKind : ℕ → Words
+  withKind k = words k (w .second) (w .third) (w .fourth)
 
-  abbrev t : Bool
-  t = isTerminator flags
+  abbrev ends : Bool
+  ends = isTerminator flags
 
-  pub stand-block : w .kind ≡ 2 → mayStand flags w ≡ t
+  pub stand-block : w .kind ≡ 2 → mayStand flags w ≡ ends
   unfolding mayStand
-  stand-block e = ap (λ k. mayStand flags (kindly k)) e ∙ and-true (t && true) ∙ and-true t
+  stand-block e = ap (λ k. mayStand flags (withKind k)) e ∙ and-true (ends && true) ∙ and-true ends
 
-  pub stand-instruction : w .kind ≡ 4 → mayStand flags w ≡ not t
+  pub stand-instruction : w .kind ≡ 4 → mayStand flags w ≡ not ends
   unfolding mayStand
-  stand-instruction e = ap (λ k. mayStand flags (kindly k)) e ∙ and-true (not t)
+  stand-instruction e = ap (λ k. mayStand flags (withKind k)) e ∙ and-true (not ends)
 
-  pub stand-result : w .kind ≡ 5 → mayStand flags w ≡ not t
+  pub stand-result : w .kind ≡ 5 → mayStand flags w ≡ not ends
   unfolding mayStand
-  stand-result e = ap (λ k. mayStand flags (kindly k)) e ∙ and-true (not t && true && true) ∙ and-true (not t && true) ∙ and-true (not t)
+  stand-result e = ap (λ k. mayStand flags (withKind k)) e ∙ and-true (not ends && true && true) ∙ and-true (not ends && true) ∙ and-true (not ends)
 
-  pub stand-edge : w .kind ≡ 7 → mayStand flags w ≡ (t && not (eqb (w .second) 0))
+  pub stand-edge : w .kind ≡ 7 → mayStand flags w ≡ (ends && not (eqb (w .second) 0))
   unfolding mayStand
   stand-edge e =
-      let led = t && not (eqb (w .second) 0) in
-      ap (λ k. mayStand flags (kindly k)) e ∙ and-true (led && true) ∙ and-true led
+      let led = ends && not (eqb (w .second) 0) in
+      ap (λ k. mayStand flags (withKind k)) e ∙ and-true (led && true) ∙ and-true led
 
   pub stand-argument : w .kind ≡ 8 → mayStand flags w ≡ (safepointFlags flags || eqb (w .second) 0)
   unfolding mayStand
-  stand-argument e = ap (λ k. mayStand flags (kindly k)) e ∙ and-true (safepointFlags flags || eqb (w .second) 0)
+  stand-argument e = ap (λ k. mayStand flags (withKind k)) e ∙ and-true (safepointFlags flags || eqb (w .second) 0)
 
   pub stand-context : w .kind ≡ 9 → mayStand flags w ≡ safepointFlags flags
   unfolding mayStand
-  stand-context e = ap (λ k. mayStand flags (kindly k)) e
+  stand-context e = ap (λ k. mayStand flags (withKind k)) e
 
   -- a record of any other kind
   pub stand-other : eqb (w .kind) 2 ≡ false → eqb (w .kind) 4 ≡ false → eqb (w .kind) 5 ≡ false → eqb (w .kind) 7 ≡ false

@@ -8,7 +8,7 @@ use native.Mathlib.Omega.{arith}
 use lib.ListN.{length}
 use lib.Dec.{T, eqb, eqb→eq, eqb·suc-suc}
 use borrow.Author.Tests.{ne-eqb}
-use Rattle.rules.specs.Lists.{all, empty}
+use Rattle.rules.specs.Lists.{all, empty, concatMap}
 use Rattle.rules.specs.Tree.{Edge, Instruction}
 use Rattle.rules.specs.Records.{isSafepoint, isTerminator, edgeArgument, encode, kind}
 use Rattle.rules.specs.File.{ordered, Section, cut, ofKind, named, edgeOf, edgesOf, instructionOf, opensItem, blockOf, function}
@@ -88,8 +88,8 @@ all-only k P (r ∷ rs) = go (eqb (kind r) k) (all-only k P rs)
     go true e = ap (λ y. P (encode r) && y) e
     go false e = e
 
--- the same sentence, by records and by parts: t terminator, p safepoint; no results, edges, contexts; no edge to block 0;
--- values only
+-- The sentence by records is the sentence by parts. Of an instruction: it is a terminator, a safepoint; it has no results, no
+-- edges, no contexts; its edges lead not to block 0, and pass only values.
 by-parts : (t p results edges contexts targets values : Bool)
     → ((not t || results) && ((t || edges) && targets) && ((p && t) || values) && ((p && t) || contexts))
     ≡ (cond t results (edges && contexts) && ((p && t) || contexts) && (targets && ((p && t) || values)))
@@ -106,47 +106,81 @@ by-parts t p r e c z v =
     (every-at (λ p. every (λ r. every (λ e. every (λ c. every (λ z. every (same t p r e c z))))))
     (every-at (λ t. every (λ p. every (λ r. every (λ e. every (λ c. every (λ z. every (same t p r e c z))))))) tt t) p) r) e) c) z) v)
 
+-- What the flags say of the records of each kind in an instruction's body, said of the instruction's parts.
+module _ (flags : ℕ) (body : List Record) where
+  abbrev terminator : Bool
+  terminator = isTerminator flags
+
+  abbrev both : Bool
+  both = safepointFlags flags
+
+  abbrev notToEntry : List Edge → Bool
+  notToEntry es = all (λ e. not (eqb (e .target) 0)) es
+
+  abbrev passValues : List Edge → Bool
+  passValues es = all (λ e. onlyValues (e .arguments)) es
+
+  none-named : (k : ℕ) → empty (ofKind k body) ≡ empty (named k body)
+  none-named k = sym (empty-map (λ (w : Words). w .second) (ofKind k body))
+
+  results-held : all (λ r. only 5 (not terminator) (encode r)) body ≡ (not terminator || empty (named 5 body))
+  results-held = all-only 5 (λ w. not terminator) body ∙ all-constant (not terminator) (ofKind 5 body) ∙ ap (λ x. not terminator || x) (none-named 5)
+
+  contexts-held : all (λ r. only 9 both (encode r)) body ≡ (both || empty (named 9 body))
+  contexts-held = all-only 9 (λ w. both) body ∙ all-constant both (ofKind 9 body) ∙ ap (λ x. both || x) (none-named 9)
+
+  no-edges : empty (ofKind 7 body) ≡ empty (edgesOf body)
+  no-edges =
+      let us = cut (eqb 7) body .sections in
+      ap empty (sym (cut-heads 7 body)) ∙ empty-map (λ (u : Section). encode (u .head)) us ∙ sym (empty-map edgeOf us)
+
+  targets-held : all (λ w. not (eqb (w .second) 0)) (ofKind 7 body) ≡ notToEntry (edgesOf body)
+  targets-held =
+      let other : ℕ → Bool = λ b. not (eqb b 0) in
+      sym (all-map other (λ (w : Words). w .second) (ofKind 7 body)) ∙ ap (all other) (sym (targets-picked body)) ∙ all-map other (λ (e : Edge). e .target) (edgesOf body)
+
+  edges-held : all (λ r. only 7 (terminator && not (eqb (encode r .second) 0)) (encode r)) body
+      ≡ ((terminator || empty (edgesOf body)) && notToEntry (edgesOf body))
+  edges-held =
+      all-only 7 (λ w. terminator && not (eqb (w .second) 0)) body
+      ∙ all-both (λ (w : Words). terminator) (λ w. not (eqb (w .second) 0)) (ofKind 7 body)
+      ∙ ap₂ (λ x y. x && y) (all-constant terminator (ofKind 7 body) ∙ ap (λ x. terminator || x) no-edges) targets-held
+
+  module _ (p : concatMap (λ e. e .arguments) (edgesOf body) ≡ map argument (ofKind 8 body)) where
+    values-held : all (λ w. eqb (w .second) 0) (ofKind 8 body) ≡ passValues (edgesOf body)
+    unfolding isValue
+    values-held =
+        sym (all-same (λ w. isValue (argument w)) (λ w. eqb (w .second) 0) (λ w. value-word (w .second) (w .third)) (ofKind 8 body))
+        ∙ sym (all-map isValue argument (ofKind 8 body)) ∙ ap (all isValue) (sym p)
+        ∙ all-concatMap isValue (λ (e : Edge). e .arguments) (edgesOf body)
+        ∙ sym (all-same (λ (e : Edge). onlyValues (e .arguments)) (λ e. all isValue (e .arguments)) (λ e. values-only (e .arguments)) (edgesOf body))
+
+    passed-held : all (λ r. only 8 (both || eqb (encode r .second) 0) (encode r)) body ≡ (both || passValues (edgesOf body))
+    passed-held =
+        all-only 8 (λ w. both || eqb (w .second) 0) body ∙ all-either both (λ w. eqb (w .second) 0) (ofKind 8 body) ∙ ap (λ x. both || x) values-held
+
+    -- all four, and the parts put together as refusal 7 has them
+    held : all (λ r. hasThere flags (encode r)) body
+        ≡ (cond terminator (empty (named 5 body)) (empty (edgesOf body) && empty (named 9 body)) && (both || empty (named 9 body))
+        && all (λ e. not (eqb (e .target) 0) && (both || onlyValues (e .arguments))) (edgesOf body))
+    held =
+        let edges = edgesOf body in
+        let contexts = empty (named 9 body) in
+        let five : Record → Bool = λ r. only 5 (not terminator) (encode r) in
+        let seven : Record → Bool = λ r. only 7 (terminator && not (eqb (encode r .second) 0)) (encode r) in
+        let eight : Record → Bool = λ r. only 8 (both || eqb (encode r .second) 0) (encode r) in
+        let nine : Record → Bool = λ r. only 9 both (encode r) in
+        all-both (λ r. five r && seven r && eight r) nine body
+        ∙ ap (λ x. x && all nine body) (all-both (λ r. five r && seven r) eight body ∙ ap (λ x. x && all eight body) (all-both five seven body))
+        ∙ ap₂ (λ x y. x && y) (ap₂ (λ x y. x && y) (ap₂ (λ x y. x && y) results-held edges-held) passed-held) contexts-held
+        ∙ by-parts terminator (isSafepoint flags) (empty (named 5 body)) (empty edges) contexts (notToEntry edges) (passValues edges)
+        ∙ ap (λ x. cond terminator (empty (named 5 body)) (empty edges && contexts) && (both || contexts) && x)
+        (ap (λ x. notToEntry edges && x) (sym (all-either both (λ (e : Edge). onlyValues (e .arguments)) edges))
+        ∙ sym (all-both (λ (e : Edge). not (eqb (e .target) 0)) (λ e. both || onlyValues (e .arguments)) edges))
+
 module _ (t : Section) (h : T (isInstruction t)) where
   holding-instruction : all (λ r. hasThere (encode (t .head) .second) (encode r)) (t .body) ≡ shaped (instructionOf t)
-  unfolding isValue
-  holding-instruction =
-      let flags = encode (t .head) .second in
-      let term = isTerminator flags in
-      let both = safepointFlags flags in
-      let body = t .body in
-      let edges = edgesOf body in
-      let five : Record → Bool = λ r. only 5 (not term) (encode r) in
-      let seven : Record → Bool = λ r. only 7 (term && not (eqb (encode r .second) 0)) (encode r) in
-      let eight : Record → Bool = λ r. only 8 (both || eqb (encode r .second) 0) (encode r) in
-      let nine : Record → Bool = λ r. only 9 both (encode r) in
-      let results : all five body ≡ (not term || empty (named 5 body)) =
-      all-only 5 (λ w. not term) body ∙ all-constant (not term) (ofKind 5 body) ∙ ap (λ x. not term || x) (sym (empty-map (λ (w : Words). w .second) (ofKind 5 body))) in
-      let none : empty (ofKind 7 body) ≡ empty edges =
-      ap empty (sym (cut-heads 7 body)) ∙ empty-map (λ (u : Section). encode (u .head)) (cut (eqb 7) body .sections)
-      ∙ sym (empty-map edgeOf (cut (eqb 7) body .sections)) in
-      let targets : all (λ w. not (eqb (w .second) 0)) (ofKind 7 body) ≡ all (λ e. not (eqb (e .target) 0)) edges =
-      sym (all-map (λ v. not (eqb v 0)) (λ (w : Words). w .second) (ofKind 7 body)) ∙ ap (all (λ v. not (eqb v 0))) (sym (targets-picked body))
-      ∙ all-map (λ v. not (eqb v 0)) (λ (e : Edge). e .target) edges in
-      let led : all seven body ≡ ((term || empty edges) && all (λ e. not (eqb (e .target) 0)) edges) =
-      all-only 7 (λ w. term && not (eqb (w .second) 0)) body ∙ all-both (λ (w : Words). term) (λ w. not (eqb (w .second) 0)) (ofKind 7 body)
-      ∙ ap₂ (λ x y. x && y) (all-constant term (ofKind 7 body) ∙ ap (λ x. term || x) none) targets in
-      let values : all (λ w. eqb (w .second) 0) (ofKind 8 body) ≡ all (λ e. onlyValues (e .arguments)) edges =
-      sym (all-same (λ w. isValue (argument w)) (λ w. eqb (w .second) 0) (λ w. value-word (w .second) (w .third)) (ofKind 8 body))
-      ∙ sym (all-map isValue argument (ofKind 8 body)) ∙ ap (all isValue) (sym (passed-picked t h))
-      ∙ all-concatMap isValue (λ (e : Edge). e .arguments) edges
-      ∙ sym (all-same (λ (e : Edge). onlyValues (e .arguments)) (λ e. all isValue (e .arguments)) (λ e. values-only (e .arguments)) edges) in
-      let passed : all eight body ≡ (both || all (λ e. onlyValues (e .arguments)) edges) =
-      all-only 8 (λ w. both || eqb (w .second) 0) body ∙ all-either both (λ w. eqb (w .second) 0) (ofKind 8 body) ∙ ap (λ x. both || x) values in
-      let contexts : all nine body ≡ (both || empty (named 9 body)) =
-      all-only 9 (λ w. both) body ∙ all-constant both (ofKind 9 body) ∙ ap (λ x. both || x) (sym (empty-map (λ (w : Words). w .second) (ofKind 9 body))) in
-      all-both (λ r. five r && seven r && eight r) nine body
-      ∙ ap (λ x. x && all nine body) (all-both (λ r. five r && seven r) eight body ∙ ap (λ x. x && all eight body) (all-both five seven body))
-      ∙ ap₂ (λ x y. x && y) (ap₂ (λ x y. x && y) (ap₂ (λ x y. x && y) results led) passed) contexts
-      ∙ by-parts term (isSafepoint flags) (empty (named 5 body)) (empty edges) (empty (named 9 body))
-      (all (λ e. not (eqb (e .target) 0)) edges) (all (λ e. onlyValues (e .arguments)) edges)
-      ∙ ap (λ x. cond term (empty (named 5 body)) (empty edges && empty (named 9 body)) && (both || empty (named 9 body)) && x)
-      (ap (λ x. all (λ e. not (eqb (e .target) 0)) edges && x) (sym (all-either both (λ (e : Edge). onlyValues (e .arguments)) edges))
-      ∙ sym (all-both (λ (e : Edge). not (eqb (e .target) 0)) (λ e. both || onlyValues (e .arguments)) edges))
+  holding-instruction = held (encode (t .head) .second) (t .body) (passed-picked t h)
 
   holding-section : holding (encode (t .head) .second) (t .body) ≡ shaped (instructionOf t)
   holding-section =

@@ -10,7 +10,7 @@ use Rattle.rules.specs.Graph.{blockAt, instructionsOf}
 use Rattle.rules.specs.Refusals.{allInstructions, endsOnce, fit, safepointTerminator, onlyValues, soundInstruction, sound}
 use Rattle.rules.specs.declared.Record.{Record}
 use Rattle.lists.specs.Alls.{all-same, all-both}
-use Rattle.checks.specs.Standing.{standing, standing-both}
+use Rattle.checks.specs.Standing.{standing, standing-halves}
 use Rattle.checks.specs.Ending.{ending-blocks}
 use Rattle.checks.specs.Holding.{shaped, holding-instructions}
 use Rattle.checks.specs.Fitting.{fitting, edgesFit, fitting-instructions}
@@ -28,7 +28,7 @@ sound-by-records rs h =
     let is = allInstructions f in
     let ends = all (λ b. endsOnce (instructionsOf b)) (f .blocks) in
     ap₂ (λ x y. x && y)
-    (standing-both 2 rs ∙ ap₂ (λ x y. x && y) (ending-blocks rs h) (holding-instructions rs h))
+    (standing-halves 2 rs ∙ ap₂ (λ x y. x && y) (ending-blocks rs h) (holding-instructions rs h))
     (fitting-instructions f rs h)
     ∙ and-assoc ends (all shaped is) (all (edgesFit f) is)
     ∙ ap (λ x. ends && x) (sym (all-both shaped (edgesFit f) is) ∙ sym (all-same (soundInstruction f) (λ i. shaped i && edgesFit f i) (sound-instruction f) is))

@@ -36,6 +36,7 @@ hasThere flags w =
     && only 8 (safepointFlags flags || eqb (w .second) 0) w
     && only 9 (safepointFlags flags) w
 
+-- both: the record may stand there
 unfoldable pub mayStand : ℕ → Words → Bool
 mayStand flags w = endsThere flags w && hasThere flags w
 
@@ -48,6 +49,7 @@ abbrev pub reading : (ℕ → Words → Bool) → (ℕ → Bool) → ℕ → Lis
 reading ok end flags [] = end flags
 reading ok end flags (r ∷ rs) = ok flags (encode r) && reading ok end (flagsBehind flags (encode r)) rs
 
+-- an end that asks nothing
 abbrev pub always : ℕ → Bool
 always flags = true
 
@@ -55,20 +57,20 @@ always flags = true
 abbrev pub standing : ℕ → List Record → Bool
 standing = reading mayStand isTerminator
 
--- block by block, and instruction by instruction
+-- its two halves: how blocks end, and what instructions have
 abbrev pub ending : ℕ → List Record → Bool
 ending = reading endsThere isTerminator
 
 abbrev pub holding : ℕ → List Record → Bool
 holding = reading hasThere always
 
-pub standing-both : (flags : ℕ) (rs : List Record) → standing flags rs ≡ (ending flags rs && holding flags rs)
+pub standing-halves : (flags : ℕ) (rs : List Record) → standing flags rs ≡ (ending flags rs && holding flags rs)
 unfolding mayStand
-standing-both flags [] = sym (and-true (isTerminator flags))
-standing-both flags (r ∷ rs) =
+standing-halves flags [] = sym (and-true (isTerminator flags))
+standing-halves flags (r ∷ rs) =
     let w = encode r in
     let f = flagsBehind flags w in
-    ap (λ t. (endsThere flags w && hasThere flags w) && t) (standing-both f rs) ∙ and-swap (endsThere flags w) (hasThere flags w) (ending f rs) (holding f rs)
+    ap (λ t. (endsThere flags w && hasThere flags w) && t) (standing-halves f rs) ∙ and-swap (endsThere flags w) (hasThere flags w) (ending f rs) (holding f rs)
 
 -- behind a record that opens neither a block nor an instruction they are what they were
 pub behind-other : (flags : ℕ) (r : Record) → T (not (eqb (kind r) 2) && not (eqb (kind r) 4)) → flagsBehind flags (encode r) ≡ flags

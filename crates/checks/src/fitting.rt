@@ -31,6 +31,7 @@ fn words_from(s: &[u8], i: usize) -> Words
     words_of(Record::Outside)
 }
 
+// The size that a value's words give, 0 for those of another record.
 fn size_in(w: Words) -> u32
     ensures { λ r. ⌜ r ≡ sizeIn w ⌝ }
 {

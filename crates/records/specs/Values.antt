@@ -178,6 +178,7 @@ module _ (k a b c : ℕ) where
 
 -- THE LAWS, of a file in order.
 module _ (s : List ℕ) (h : T (ordered 0 (records s))) where
+  -- the size of value v is read off the record at place v, and is 0 where that is no value
   pub size-in-place : (v : ℕ) → sizeOf (functionIn s) v ≡ sizeIn (encode (getD (records s) v record′.Outside))
   unfolding function
   size-in-place v =
@@ -186,10 +187,6 @@ module _ (s : List ℕ) (h : T (ordered 0 (records s))) where
   pub value-in-place : (v : ℕ) → v < recordCount s → valueAt (functionIn s) v ≡ valueIn (recordAt s v)
   unfolding function
   value-in-place v l = values-at 0 (records s) tt (ordered-chain 0 (records s) h) v ∙ ap valueIn (record-there s v l)
-
-  pub value-beyond : (v : ℕ) → recordCount s ≤ v → valueAt (functionIn s) v ≡ noValue
-  unfolding function
-  value-beyond v l = values-at 0 (records s) tt (ordered-chain 0 (records s) h) v ∙ ap valueIn (record-beyond s v l)
 
   module _ (v : ℕ) (l : v < length (functionIn s .values)) where
     -- a value's record is in the file, and is of kind 1
