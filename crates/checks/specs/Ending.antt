@@ -12,7 +12,8 @@ use Rattle.rules.specs.Graph.{instructionsOf}
 use Rattle.rules.specs.Refusals.{endsOnce}
 use Rattle.rules.specs.declared.Record.{Record}
 use Rattle.lists.specs.Tests.{T-ext, and-intro, and-right, T-and, or-then, is-false, eqb-swap, passes-at}
-use Rattle.lists.specs.Alls.{all-map, all-where}
+use Rattle.lists.specs.Maps.{all-map}
+use Rattle.lists.specs.Alls.{all-where}
 use Rattle.records.specs.Kinds.{Kinds}
 use Rattle.records.specs.InOrder.{cut-keeps}
 use Rattle.records.specs.Parts.{inBlock, in-block, blockBody, isBlock, isBlock-body, file-blocks, front-values, block-instructions-are}

@@ -16,8 +16,8 @@ use Rattle.rules.specs.declared.EdgeArgument.the-variants as passes
 use Rattle.rules.specs.declared.Words.{Words}
 use Rattle.rules.specs.declared.Record.{Record}
 use Rattle.lists.specs.Tests.{and-left, and-right, T-and, is-false, is-true, differ, eqb-swap}
-use Rattle.lists.specs.Maps.{all-and}
-use Rattle.lists.specs.Alls.{all-where, all-map}
+use Rattle.lists.specs.Maps.{all-and, all-map}
+use Rattle.lists.specs.Alls.{all-where}
 use Rattle.records.specs.Kinds.{Kinds, kinds-weaken}
 use Rattle.records.specs.InOrder.{chain, whole, opened, cut-opened, chained, cut-chained, cut-kinds}
 use Rattle.records.specs.Parts.{inBody, isInstruction, head-instruction, body-chained, body-allowed, front-parameters, isBlock, isBlock-body, front-values, second, argument}

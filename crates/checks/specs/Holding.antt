@@ -20,7 +20,8 @@ use Rattle.rules.specs.declared.Words.{Words}
 use Rattle.rules.specs.declared.Record.{Record}
 use Rattle.lists.specs.Tests.{and-intro, and-left, and-right, differ, passes-at}
 use Rattle.lists.specs.Truths.{agree, agree-same, every, every-at}
-use Rattle.lists.specs.Alls.{all-where, all-same, all-both, all-either, all-constant, all-map, all-concatMap, empty-map}
+use Rattle.lists.specs.Maps.{all-map}
+use Rattle.lists.specs.Alls.{all-where, all-same, all-both, all-either, all-constant, all-concatMap, empty-map}
 use Rattle.records.specs.Kinds.{kinds-weaken}
 use Rattle.records.specs.Parts.{inBlock, in-block, inBody, isInstruction, body-allowed, blockBody, block-instructions, block-instructions-are, front-parameters, isBlock, isBlock-body, file-blocks, front-values, cut-heads, argument, targets-picked, passed-picked}
 use Rattle.checks.specs.Standing.{safepointFlags, only, hasThere, flagsBehind, always, holding, reading-cut, reading-steady, reading-idle}

@@ -1,3 +1,5 @@
+pub mod Numbers
+pub mod Definitions
 pub mod Standing
 pub mod Ending
 pub mod Holding

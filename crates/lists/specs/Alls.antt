@@ -53,10 +53,6 @@ module _ {A : Type 0} where
   all-joined p (x ∷ xs) ys = ap (λ t. p x && t) (all-joined p xs ys) ∙ sym (and-assoc (p x) (all p xs) (all p ys))
 
 module _ {A B : Type 0} where
-  pub all-map : (p : B → Bool) (f : A → B) (xs : List A) → all p (map f xs) ≡ all (λ x. p (f x)) xs
-  all-map p f [] = refl
-  all-map p f (x ∷ xs) = ap (λ t. p (f x) && t) (all-map p f xs)
-
   pub all-concatMap : (p : B → Bool) (g : A → List B) (xs : List A) → all p (concatMap g xs) ≡ all (λ x. all p (g x)) xs
   all-concatMap p g [] = refl
   all-concatMap p g (x ∷ xs) = all-joined p (g x) (concatMap g xs) ∙ ap (λ t. all p (g x) && t) (all-concatMap p g xs)

@@ -5,3 +5,4 @@ pub mod InOrder
 pub mod Parts
 pub mod Leading
 pub mod Values
+pub mod Writing
