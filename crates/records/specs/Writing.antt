@@ -1,11 +1,11 @@
 -- What is written is read back: a word from its bytes, a record from its words, a file from its records.
-use Prim.Native.Nat.{ℕ, _+_, _*_, _/_, _%_, _<_}
+use Prim.Native.Nat.{ℕ, suc, _≤_, _+_, _*_, _/_, _%_, _<_}
 use mathlib.Core.Path.{_≡_, refl, ap, ap₂, _∙_}
 use mathlib.Core.Bool.{Bool, true, false, _&&_}
 use mathlib.Core.List.{List, [], _∷_, _++_}
 use native.Mathlib.Nat.{div-div-eq-div-mul, div-add-mod', mod-eq-of-lt, div-mul-le-self}
 use native.Mathlib.Omega.{arith}
-use lib.ListN.{length, length-append}
+use lib.ListN.{length, drop, set, length-append}
 use lib.Dec.{T, leb, eqb, eqb-refl, ltb→lt}
 use Rattle.rules.specs.Limits.{recordBytes}
 use Rattle.rules.specs.Lists.{concatMap, has}
@@ -128,3 +128,24 @@ records-back rs h =
 -- a function is read back from its bytes
 pub function-in-bytes : (f : Function) → AllWritable (functionRecords f) → functionIn (bytes (functionRecords f)) ≡ f
 function-in-bytes f h = ap function (records-back (functionRecords f) h) ∙ function-back f
+
+-- WRITING IN PLACE. Bytes put one behind the other, from place i on.
+abbrev pub putFrom : ℕ → List ℕ → List ℕ → List ℕ
+putFrom i [] t = t
+putFrom i (b ∷ bs) t = putFrom (suc i) bs (set t i b)
+
+put-behind : (i x : ℕ) (bs t : List ℕ) → putFrom (suc i) bs (x ∷ t) ≡ x ∷ putFrom i bs t
+put-behind i x [] t = refl
+put-behind i x (b ∷ bs) t = put-behind (suc i) x bs (set t i b)
+
+-- at the start they fill the front, and what lies behind stays
+pub put-front : (bs t : List ℕ) → length bs ≤ length t → putFrom 0 bs t ≡ bs ++ drop (length bs) t
+put-front [] t h = refl
+put-front (b ∷ bs) [] h = absurd (omega arith)
+put-front (b ∷ bs) (x ∷ t) h = put-behind 0 b bs t ∙ ap (λ u. b ∷ u) (put-front bs t (omega arith))
+
+-- four words put one behind the other are a record put at the front
+pub put-words : (r : Record) (w : Words) (t : List ℕ) → w ≡ encode r → recordBytes ≤ length t
+    → putFrom 12 (bytesOfWord (w .fourth)) (putFrom 8 (bytesOfWord (w .third)) (putFrom 4 (bytesOfWord (w .second)) (putFrom 0 (bytesOfWord (w .kind)) t)))
+    ≡ bytesOfRecord r ++ drop recordBytes t
+put-words r w t e h = ap (λ (x : Words). putFrom 0 (concatMap bytesOfWord (x .kind ∷ x .second ∷ x .third ∷ x .fourth ∷ [])) t) e ∙ put-front (bytesOfRecord r) t h

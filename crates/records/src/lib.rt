@@ -1,12 +1,14 @@
 // One record: its words and bytes, read and written.
 ghost use mathlib.Core.Path.{_≡_};
 ghost use mathlib.Core.Bool.{cond, _&&_};
-ghost use Prim.Native.Nat.{_+_, _*_, _≤_, _<_};
+ghost use Prim.Native.Nat.{_+_, _*_, _%_, _≤_, _<_};
 ghost use lib.Dec.{eqb, leb};
-ghost use lib.ListN.{length};
+ghost use lib.ListN.{length, drop};
+ghost use mathlib.Core.List.{_++_};
 ghost use Rattle.rules.specs.Limits.{recordBytes};
 ghost use Rattle.rules.specs.Lists.{has};
-ghost use Rattle.rules.specs.Records.{wordAt, slotSizes, log2, edgeArgument, bit, words as wordsAre, encode, kind, decode, recordAt};
+ghost use Rattle.rules.specs.Records.{wordAt, slotSizes, log2, edgeArgument, bit, words as wordsAre, encode, kind, decode, recordAt, bytesOfWord, bytesOfRecord};
+ghost use Rattle.records.specs.Writing.{putFrom};
 ghost use Rattle.rules.specs.declared.Record.the-variants.{Outside, EdgeArgument as RecordOfArgument};
 use rules::EdgeArgument;
 use rules::RECORD_BYTES;
@@ -248,4 +250,34 @@ pub fn kind_of(r: Record) -> u32
 {
     let w = words_of(r);
     w.kind
+}
+
+// A byte of a word: its digit to the base 256.
+fn low_byte(w: u32) -> u8
+    ensures { λ r. ⌜ r ≡ w % 256 ⌝ }
+{
+    (w % 256) as u8
+}
+
+// A word put at byte i, least significant byte first.
+fn put_word(out: &mut [u8], i: usize, w: u32)
+    requires { ⌜ i + 4 ≤ length (now out) ⌝ }
+    ensures { λ r. ⌜ now (out .exit) ≡ putFrom i (bytesOfWord w) (now (out .entry)) ⌝ }
+{
+    out[i] = low_byte(w);
+    out[i + 1] = low_byte(w / 256);
+    out[i + 2] = low_byte(w / 65536);
+    out[i + 3] = low_byte(w / 16777216);
+}
+
+// A record put at the front; what lies behind it stays.
+pub fn put_record(out: &mut [u8], r: Record)
+    requires { ⌜ recordBytes ≤ length (now out) ⌝ }
+    ensures { λ x. ⌜ now (out .exit) ≡ bytesOfRecord r ++ drop recordBytes (now (out .entry)) ⌝ }
+{
+    let w = words_of(r);
+    put_word(out, 0, w.kind);
+    put_word(out, 4, w.second);
+    put_word(out, 8, w.third);
+    put_word(out, 12, w.fourth);
 }
