@@ -1,2 +1,7 @@
 pub mod Numbers
 pub mod Definitions
+pub mod Standing
+pub mod Ending
+pub mod Holding
+pub mod Fitting
+pub mod Soundness

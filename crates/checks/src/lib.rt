@@ -1,5 +1,8 @@
 // Refusals 2 to 8: each test of document 01 as a function, and the lowest number that applies.
 mod counts;
 mod definitions;
+mod fitting;
 mod numbers;
 mod order;
+mod soundness;
+mod standing;

@@ -4,3 +4,5 @@ pub mod Members
 pub mod Maps
 pub mod Counts
 pub mod Lack
+pub mod Alls
+pub mod Truths

@@ -51,7 +51,7 @@ cut-heads k =
     not-swap false false f h = tt
 
 -- ORDER AT EACH LEVEL. In front of the first block there are values only.
-front-values : (rs : List Record) → T (ordered 0 rs) → Kinds (eqb 1) (cut (eqb 2) rs .front)
+pub front-values : (rs : List Record) → T (ordered 0 rs) → Kinds (eqb 1) (cut (eqb 2) rs .front)
 unfolding keptBy followers
 front-values rs h =
     chain-good (0 ∷ 1 ∷ []) (λ j. not (eqb 2 j)) (eqb 1) tt 0 (cut (eqb 2) rs .front) tt
@@ -62,18 +62,22 @@ abbrev pub blockBody : List Record → Type 0
 blockBody body = T (chain 2 body) × Kinds (λ j. not (eqb 2 j)) body
 
 -- in front of its first item there are parameters only
-front-parameters : (body : List Record) → blockBody body → Kinds (eqb 3) (cut opensItem body .front)
+pub front-parameters : (body : List Record) → blockBody body → Kinds (eqb 3) (cut opensItem body .front)
 unfolding keptBy followers
 front-parameters body h =
     chain-good (2 ∷ 3 ∷ []) (λ j. not (opensItem j)) (eqb 3) tt 2 (cut opensItem body .front) tt
     (cut-chained opensItem body 2 (h .0) .0) (cut-opened opensItem body .0)
 
 -- AN INSTRUCTION'S SECTION, in a block of an input: its head is of kind 4, and its body has kinds 5 to 9 in order.
-abbrev inBlock : ℕ → Bool
+abbrev pub inBlock : ℕ → Bool
 inBlock j = has j (3 ∷ 4 ∷ 5 ∷ 6 ∷ 7 ∷ 8 ∷ 9 ∷ [])
 
-abbrev isInstruction : Section → Bool
+abbrev pub isInstruction : Section → Bool
 isInstruction t = opened opensItem t && (chained t && all (λ r. inBlock (kind r)) (whole t))
+
+-- the kinds that stand in its body
+abbrev pub inBody : ℕ → Bool
+inBody j = not (opensItem j) && inBlock j
 
 module _ (t : Section) (h : T (isInstruction t)) where
   instruction-opened : T (opened opensItem t)
@@ -87,7 +91,7 @@ module _ (t : Section) (h : T (isInstruction t)) where
   instruction-kinds =
       and-right (chained t) (all (λ r. inBlock (kind r)) (whole t)) (and-right (opened opensItem t) (chained t && all (λ r. inBlock (kind r)) (whole t)) h)
 
-  head-instruction : T (eqb (kind (t .head)) 4)
+  pub head-instruction : T (eqb (kind (t .head)) 4)
   head-instruction =
       let k = kind (t .head) in
       or-then (opensItem k) (eqb k 4)
@@ -95,20 +99,17 @@ module _ (t : Section) (h : T (isInstruction t)) where
       (and-left (opensItem k) (all (λ r. not (opensItem (kind r))) (t .body)) instruction-opened)
 
   -- the body behind a record of kind 4
-  body-chained : T (chain 4 (t .body))
+  pub body-chained : T (chain 4 (t .body))
   body-chained = rw (← eqb→eq (kind (t .head)) 4 head-instruction) instruction-chained
 
-  abbrev inBody : ℕ → Bool
-  inBody j = not (opensItem j) && inBlock j
-
-  body-allowed : Kinds inBody (t .body)
+  pub body-allowed : Kinds inBody (t .body)
   body-allowed =
       all-and (λ r. not (opensItem (kind r))) (λ r. inBlock (kind r)) (t .body)
       (and-right (opensItem (kind (t .head))) (all (λ r. not (opensItem (kind r))) (t .body)) instruction-opened)
       (and-right (inBlock (kind (t .head))) (all (λ r. inBlock (kind r)) (t .body)) instruction-kinds)
 
   -- in front of its first edge no edge argument stands
-  front-edges : Kinds (λ j. not (eqb j 8)) (cut (eqb 7) (t .body) .front)
+  pub front-edges : Kinds (λ j. not (eqb j 8)) (cut (eqb 7) (t .body) .front)
   unfolding keptBy followers
   front-edges =
       chain-good (4 ∷ 5 ∷ 6 ∷ 9 ∷ []) (λ j. not (eqb 7 j) && inBody j) (λ j. not (eqb j 8)) tt 4 (cut (eqb 7) (t .body) .front) tt
@@ -116,12 +117,12 @@ module _ (t : Section) (h : T (isInstruction t)) where
       (all-and (λ r. not (eqb 7 (kind r))) (λ r. inBody (kind r)) (cut (eqb 7) (t .body) .front) (cut-opened (eqb 7) (t .body) .0)
       (cut-kinds (eqb 7) inBody (t .body) body-allowed .0))
 
-in-block : (body : List Record) → blockBody body → Kinds inBlock body
+pub in-block : (body : List Record) → blockBody body → Kinds inBlock body
 unfolding keptBy followers
 in-block body h = chain-good (2 ∷ 3 ∷ 4 ∷ 5 ∷ 6 ∷ 7 ∷ 8 ∷ 9 ∷ []) (λ j. not (eqb 2 j)) inBlock tt 2 body tt (h .0) (h .1)
 
 -- a block's items are instructions
-block-instructions : (body : List Record) → blockBody body → Sections isInstruction (cut opensItem body .sections)
+pub block-instructions : (body : List Record) → blockBody body → Sections isInstruction (cut opensItem body .sections)
 block-instructions body h =
     let ts = cut opensItem body .sections in
     all-and (opened opensItem) (λ t. chained t && all (λ r. inBlock (kind r)) (whole t)) ts (cut-opened opensItem body .1)
@@ -154,14 +155,14 @@ block-picked k read part p o n s h =
     (kinds-weaken (eqb 3) (λ j. not (eqb j k)) (λ j t. differ (eqb 3) j k t n) (cut opensItem (s .body) .front) (front-parameters (s .body) h)))
 
 -- the sections of a file's blocks
-abbrev isBlock : Section → Bool
+abbrev pub isBlock : Section → Bool
 isBlock s = opened (eqb 2) s && chained s
 
-file-blocks : (rs : List Record) → T (ordered 0 rs) → Sections isBlock (cut (eqb 2) rs .sections)
+pub file-blocks : (rs : List Record) → T (ordered 0 rs) → Sections isBlock (cut (eqb 2) rs .sections)
 file-blocks rs h =
     all-and (opened (eqb 2)) chained (cut (eqb 2) rs .sections) (cut-opened (eqb 2) rs .1) (cut-chained (eqb 2) rs 0 (ordered-chain 0 rs h) .1)
 
-isBlock-body : (s : Section) → T (isBlock s) → blockBody (s .body)
+pub isBlock-body : (s : Section) → T (isBlock s) → blockBody (s .body)
 isBlock-body s h =
     let o = and-left (opened (eqb 2) s) (chained s) h in
     let two = eqb→eq 2 (kind (s .head)) (and-left (eqb 2 (kind (s .head))) (all (λ r. not (eqb 2 (kind r))) (s .body)) o) in
@@ -187,20 +188,20 @@ module _ {B : Type 0} (rs : List Record) (h : T (ordered 0 rs)) (k : ℕ) (read 
       concatMap-concatMap part instructionsOf (function rs .blocks)
       ∙ blocks-picked (λ b. concatMap part (instructionsOf b)) (block-picked k read part p o n)
 
-abbrev second : Words → ℕ
+abbrev pub second : Words → ℕ
 second w = w .second
 
 -- the edge argument that a record of kind 8 is
-abbrev argument : Words → EdgeArgument
+abbrev pub argument : Words → EdgeArgument
 argument w = edgeArgument (w .second) (w .third)
 
 -- the targets of an instruction's edges, and what its edges pass
-targets-picked : (body : List Record) → map (λ e. e .target) (edgesOf body) ≡ named 7 body
+pub targets-picked : (body : List Record) → map (λ e. e .target) (edgesOf body) ≡ named 7 body
 targets-picked body =
     let us = cut (eqb 7) body .sections in
     map-map (λ (e : Edge). e .target) edgeOf us ∙ sym (map-map second (λ (u : Section). encode (u .head)) us) ∙ ap (map second) (cut-heads 7 body)
 
-passed-picked : (t : Section) → T (isInstruction t) → concatMap (λ e. e .arguments) (edgesOf (t .body)) ≡ map argument (ofKind 8 (t .body))
+pub passed-picked : (t : Section) → T (isInstruction t) → concatMap (λ e. e .arguments) (edgesOf (t .body)) ≡ map argument (ofKind 8 (t .body))
 passed-picked t h =
     let us = cut (eqb 7) (t .body) .sections in
     concatMap-map (λ (e : Edge). e .arguments) edgeOf us ∙ sym (map-concatMap argument (λ (u : Section). ofKind 8 (u .body)) us)
