@@ -68,10 +68,10 @@ front-parameters body h =
     (cut-chained opensItem body 2 (h .0) .0) (cut-opened opensItem body .0)
 
 -- AN INSTRUCTION'S SECTION, in a block of an input: its head is of kind 4, and its body has kinds 5 to 9 in order.
-abbrev inBlock : ℕ → Bool
+abbrev pub inBlock : ℕ → Bool
 inBlock j = has j (3 ∷ 4 ∷ 5 ∷ 6 ∷ 7 ∷ 8 ∷ 9 ∷ [])
 
-abbrev isInstruction : Section → Bool
+abbrev pub isInstruction : Section → Bool
 isInstruction t = opened opensItem t && (chained t && all (λ r. inBlock (kind r)) (whole t))
 
 module _ (t : Section) (h : T (isInstruction t)) where
@@ -115,7 +115,7 @@ module _ (t : Section) (h : T (isInstruction t)) where
       (all-and (λ r. not (eqb 7 (kind r))) (λ r. inBody (kind r)) (cut (eqb 7) (t .body) .front) (cut-opened (eqb 7) (t .body) .0)
       (cut-kinds (eqb 7) inBody (t .body) body-allowed .0))
 
-in-block : (body : List Record) → blockBody body → Kinds inBlock body
+pub in-block : (body : List Record) → blockBody body → Kinds inBlock body
 unfolding keptBy followers
 in-block body h = chain-good (2 ∷ 3 ∷ 4 ∷ 5 ∷ 6 ∷ 7 ∷ 8 ∷ 9 ∷ []) (λ j. not (eqb 2 j)) inBlock tt 2 body tt (h .0) (h .1)
 
@@ -153,14 +153,14 @@ block-picked k read part p o n s h =
     (kinds-weaken (eqb 3) (λ j. not (eqb j k)) (λ j t. differ (eqb 3) j k t n) (cut opensItem (s .body) .front) (front-parameters (s .body) h)))
 
 -- the sections of a file's blocks
-abbrev isBlock : Section → Bool
+abbrev pub isBlock : Section → Bool
 isBlock s = opened (eqb 2) s && chained s
 
-file-blocks : (rs : List Record) → T (ordered 0 rs) → Sections isBlock (cut (eqb 2) rs .sections)
+pub file-blocks : (rs : List Record) → T (ordered 0 rs) → Sections isBlock (cut (eqb 2) rs .sections)
 file-blocks rs h =
     all-and (opened (eqb 2)) chained (cut (eqb 2) rs .sections) (cut-opened (eqb 2) rs .1) (cut-chained (eqb 2) rs 0 (ordered-chain 0 rs h) .1)
 
-isBlock-body : (s : Section) → T (isBlock s) → blockBody (s .body)
+pub isBlock-body : (s : Section) → T (isBlock s) → blockBody (s .body)
 isBlock-body s h =
     let o = and-left (opened (eqb 2) s) (chained s) h in
     let two = eqb→eq 2 (kind (s .head)) (and-left (eqb 2 (kind (s .head))) (all (λ r. not (eqb 2 (kind r))) (s .body)) o) in
@@ -194,7 +194,7 @@ abbrev argument : Words → EdgeArgument
 argument w = edgeArgument (w .second) (w .third)
 
 -- the targets of an instruction's edges, and what its edges pass
-targets-picked : (body : List Record) → map (λ e. e .target) (edgesOf body) ≡ named 7 body
+pub targets-picked : (body : List Record) → map (λ e. e .target) (edgesOf body) ≡ named 7 body
 targets-picked body =
     let us = cut (eqb 7) body .sections in
     map-map (λ (e : Edge). e .target) edgeOf us ∙ sym (map-map second (λ (u : Section). encode (u .head)) us) ∙ ap (map second) (cut-heads 7 body)

@@ -1,0 +1,4 @@
+pub mod Zeros
+pub mod Between
+pub mod Sections
+pub mod Blocks
