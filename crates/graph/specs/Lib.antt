@@ -2,3 +2,5 @@ pub mod Zeros
 pub mod Between
 pub mod Sections
 pub mod Blocks
+pub mod NextEdge
+pub mod Tables

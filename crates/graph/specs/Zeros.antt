@@ -3,9 +3,11 @@ use Prim.Native.Nat.{ℕ, zero, suc, _+_, _-_, _<_, _≤_}
 use mathlib.Core.Path.{_≡_, refl, sym, ap, _∙_}
 use mathlib.Core.List.{List, [], _∷_, _++_}
 use native.Mathlib.Omega.{arith}
-use lib.ListN.{length, getD, drop, replicate, length-append, length-replicate}
-use lib.Seq.{sets, sets-eq}
+use lib.ListN.{length, getD, take, drop, replicate, length-append, length-replicate, List·getD-eq-default}
+use lib.Seq.{sets, sets-eq, length-take-le, getD-take, ext-getD}
+use lib.Dec.{ltb, ltb→lt, nltb→le}
 use Rattle.rules.specs.Lists.{padded}
+use Rattle.lists.specs.Tests.{test-elim}
 
 -- nothing but zeros
 abbrev pub Zeros : List ℕ → Type 0
@@ -46,3 +48,35 @@ getD-padded n xs i = behind xs i
 
 pub length-padded-le : (n : ℕ) (xs : List ℕ) → length xs ≤ length (padded n xs)
 length-padded-le n xs = omega (arith, length-append xs (replicate (n - length xs) 0))
+
+pub zeros-at : {table : List ℕ} → Zeros table → (i : ℕ) → getD table i 0 ≡ 0
+zeros-at {table} z i = ap (λ (t : List ℕ). getD t i 0) z ∙ getD-zeros (length table) i
+
+-- So a table that has a list at its front and 0 everywhere behind is that list with zeros behind it.
+pub padded-ext :
+    (table xs : List ℕ) (k : ℕ) → take k table ≡ xs → k ≤ length table → ((i : ℕ) → k ≤ i → getD table i 0 ≡ 0)
+    → table ≡ padded (length table) xs
+padded-ext table xs k front l zeros = ext-getD 0 table (padded (length table) xs) long each
+  where
+    short : length xs ≡ k
+    short = sym (ap length front) ∙ length-take-le k table l
+
+    long : length table ≡ length (padded (length table) xs)
+    long =
+        omega (
+          arith,
+          short,
+          length-append xs (replicate (length table - length xs) 0),
+          length-replicate {A = ℕ} (length table - length xs) 0,
+        )
+
+    each : (i : ℕ) → i < length table → getD table i 0 ≡ getD (padded (length table) xs) i 0
+    each i h =
+        test-elim (ltb i k)
+        (λ t.
+        let less : i < k = ltb→lt i k t in
+        sym (getD-take k table i 0 less) ∙ ap (λ (t : List ℕ). getD t i 0) front ∙ sym (getD-padded (length table) xs i))
+        (λ t.
+        let more : k ≤ i = nltb→le i k t in
+        let out : getD xs i 0 ≡ 0 = List·getD-eq-default xs 0 (omega (arith, short)) in
+        zeros i more ∙ sym (getD-padded (length table) xs i ∙ out))
