@@ -4,3 +4,4 @@ pub mod Sections
 pub mod Blocks
 pub mod NextEdge
 pub mod Tables
+pub mod Few

@@ -67,14 +67,15 @@ fn finish(
 {
     let top = at.depth - 1;
     let count = at.count;
+    let tag = count + 1;
     let b = stack[top];
     order[count] = b;
-    index[b] = count + 1;
+    index[b] = tag;
     stack[top] = 0;
     next[top] = 0;
     At {
         depth: top,
-        count: count + 1,
+        count: tag,
     }
 }
 
