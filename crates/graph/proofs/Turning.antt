@@ -27,7 +27,7 @@ use Rattle.graph.specs.Between.{between}
 use Rattle.graph.specs.Blocks.{blockTable, placeOf, length-blockTable, place-le, place-less, successors-by-place}
 use Rattle.graph.specs.NextEdge.{Taken, edgeFrom, edgeFrom-taken}
 use Rattle.graph.specs.Tables.{Tables, tables, finishTop, enterBlock, lookFrom, takeEdge, turnBy, turnOn, down, frameOf, frameAt, stageOf, machineOf, Given, Room, Clear, Ready}
-use Rattle.graph.specs.declared.walk.NextEdge.{NextEdge}
+use Rattle.graph.specs.declared.edges.NextEdge.{NextEdge}
 use Rattle.graph.proofs.Marks.{length-down}
 use Rattle.graph.proofs.Tags.{Tagged, tagged-more, tagged-other}
 use Rattle.graph.proofs.Steps.{stack-top, step-top, finish-step, skip-step, enter-step}

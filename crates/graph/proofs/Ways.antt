@@ -12,7 +12,7 @@ use Rattle.lists.specs.Tests.{eq→eqb, chosen, left-out}
 use Rattle.graph.specs.Between.{between}
 use Rattle.graph.specs.NextEdge.{Taken, edgeFrom}
 use Rattle.graph.specs.Tables.{Tables, finishTop, enterBlock, lookFrom, takeEdge, turnBy, turnOn, Ready}
-use Rattle.graph.specs.declared.walk.NextEdge.{NextEdge}
+use Rattle.graph.specs.declared.edges.NextEdge.{NextEdge}
 use Rattle.graph.proofs.Turning.{places-long, end-le, start-less, top-in-file, size, looks-in-block, taken, target-in-file, enter-room}
 
 -- what is known of the innermost block

@@ -5,3 +5,4 @@ pub mod Blocks
 pub mod NextEdge
 pub mod Tables
 pub mod Few
+pub mod Links

@@ -8,7 +8,7 @@ use lib.Dec.{eqb}
 use Rattle.rules.specs.Records.{Words, encode, kind, recordAt, recordCount}
 use Rattle.rules.specs.File.{ofKind, named}
 use Rattle.rules.specs.declared.Record.{Record}
-use Rattle.graph.specs.declared.walk.NextEdge.{NextEdge}
+use Rattle.graph.specs.declared.edges.NextEdge.{NextEdge}
 use Rattle.graph.specs.Between.{between, between-none, between-more}
 
 -- the tag of a record

@@ -1,3 +1,4 @@
-// The block table and the post-order walk: what every later layer reads a file by.
+// The block table, the post-order walk and the lists of predecessors: what every later layer reads a file by.
 pub mod blocks;
+pub mod edges;
 pub mod walk;

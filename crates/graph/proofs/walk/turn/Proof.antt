@@ -4,7 +4,7 @@ use Rattle.graph.specs.Tables.{Tables, tables}
 use mathlib.Core.Logic.{_≢_}
 use lib.ListN.{getD, length-set}
 use Rattle.graph.specs.NextEdge.{edgeFrom}
-use Rattle.graph.specs.declared.walk.NextEdge.{NextEdge}
+use Rattle.graph.specs.declared.edges.NextEdge.{NextEdge}
 use native.Mathlib.Omega.{arith}
 use mathlib.Core.Path.{_≡_, refl, sym, ap, _∙_}
 use Prim.Native.Nat.{_+_, _-_}

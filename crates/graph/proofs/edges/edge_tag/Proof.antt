@@ -1,9 +1,9 @@
--- `graph::walk::edge_tag` meets its contract.
+-- `graph::edges::edge_tag` meets its contract.
 use native.Mathlib.Omega.{arith}
 use mathlib.Core.Path.{_≡_, refl, sym}
 use borrow.Author.Needs.{needs}
-use Rattle.graph.proofs.walk.edge_tag.Statement.{statement}
-use Rattle.graph.proofs.walk.edge_tag.Tie as tie
+use Rattle.graph.proofs.edges.edge_tag.Statement.{statement}
+use Rattle.graph.proofs.edges.edge_tag.Tie as tie
 use mathlib.Core.List.{List, [], _∷_}
 use Prim.Native.Nat.{ℕ}
 use types.Run.{OneOf, miss}

@@ -1,4 +1,4 @@
--- `graph::walk::next_edge` meets its contract.
+-- `graph::edges::next_edge` meets its contract.
 use borrow.Author.Needs.{needs}
 use Rattle.graph.proofs.Looking.{edgeFrom-here, edgeFrom-later, edgeFrom-end}
 use Rattle.graph.specs.Between.{between}
@@ -7,8 +7,8 @@ use Rattle.rules.specs.Records.{recordAt, recordCount}
 use native.Mathlib.Omega.{arith}
 use mathlib.Core.Path.{_≡_, refl, sym, ap, _∙_}
 use Prim.Native.Nat.{_≤_, _-_}
-use Rattle.graph.proofs.walk.next_edge.Statement.{statement}
-use Rattle.graph.proofs.walk.next_edge.Tie as tie
+use Rattle.graph.proofs.edges.next_edge.Statement.{statement}
+use Rattle.graph.proofs.edges.next_edge.Tie as tie
 
 abbrev Inv-loop : tie.InvT-loop
 Inv-loop s from end i₀ i = (i ≤ end) × (edgeFrom s i end ≡ edgeFrom s from end)
