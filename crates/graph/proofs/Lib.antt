@@ -6,3 +6,4 @@ pub mod Tags
 pub mod Turning
 pub mod Ways
 pub mod Walking
+pub mod Linking

@@ -1,19 +1,17 @@
 -- What each of a turn's three ways does to the tables is a step of the machine.
-use Prim.Native.Nat.{ℕ, zero, suc, _+_, _<_, _≤_}
-use mathlib.Core.Path.{_≡_, refl, sym, ap, ap₂, _∙_}
+use Prim.Native.Nat.{ℕ, suc, _+_, _<_}
+use mathlib.Core.Path.{_≡_, refl, ap, ap₂, _∙_}
 use mathlib.Core.Logic.{_≢_}
-use mathlib.Core.Bool.{Bool, true, false, not}
-use mathlib.Core.List.{List, [], _∷_, reverse}
+use mathlib.Core.List.{List, _∷_}
 use native.Mathlib.Omega.{arith}
 use native.Mathlib.Numerals.{add-one}
-use lib.ListN.{length, getD, set, take, length-set}
+use lib.ListN.{length, getD, set, length-set}
 use lib.Seq.{getD-set-same, getD-set-other}
-use lib.Dec.{eqb}
 use Rattle.rules.specs.Lists.{Set}
 use Rattle.rules.specs.Tree.{Function}
-use Rattle.rules.specs.File.{named, functionIn}
+use Rattle.rules.specs.File.{named}
 use Rattle.rules.specs.Graph.{successors}
-use Rattle.walks.specs.Walks.{Stage, finishing, entering}
+use Rattle.walks.specs.Walks.{finishing}
 use Rattle.walks.specs.Machine.{Frame, Machine, push, step, stepOn, stepTop}
 use Rattle.graph.specs.Between.{between}
 use Rattle.graph.specs.Tables.{Tables, tables, down, frameOf, frameAt, stageOf, machineOf}

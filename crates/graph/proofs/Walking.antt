@@ -1,24 +1,23 @@
 -- The walk from its first turn to its last.
-use Prim.Native.Nat.{ℕ, zero, suc, _+_, _<_, _≤_}
-use mathlib.Core.Path.{_≡_, refl, sym, ap, ap₂, _∙_, subst}
-use mathlib.Core.Logic.{_≢_}
+use Prim.Native.Nat.{ℕ, _+_, _<_}
+use mathlib.Core.Path.{_≡_, sym, ap, ap₂, _∙_, subst}
 use mathlib.Core.Bool.{Bool, true, false, not, _||_}
-use mathlib.Core.List.{List, [], _∷_, reverse, reverse-reverse}
+use mathlib.Core.List.{List, [], _∷_, reverse-reverse}
 use native.Mathlib.Omega.{arith}
 use lib.ListN.{length, getD, set, take, length-set}
 use lib.Seq.{getD-set-same, getD-set-other, length-take-le, ext-getD}
-use lib.Dec.{T, T-not, eqb, eqb→eq}
+use lib.Dec.{T, eqb, eqb→eq}
 use Rattle.rules.specs.Lists.{has, padded}
 use Rattle.rules.specs.Tree.{Function}
 use Rattle.rules.specs.File.{functionIn}
 use Rattle.rules.specs.Graph.{successors, reachable}
-use Rattle.lists.specs.Tests.{test-elim, neqb→ne}
-use Rattle.walks.specs.Machine.{Frame, Machine, Kept, Going, Found, begin, step, begin-going, begin-kept, going-found, left, step-less}
-use Rattle.graph.specs.Zeros.{Zeros, zeros-at, padded-ext}
-use Rattle.graph.specs.Tables.{Tables, tables, enterBlock, turnOn, down, frameOf, frameAt, stageOf, machineOf, tagFrom, indexTag, indexTable, indexTable-at, length-indexTable, Given, Room, Clear, Ready, Lent, Numbered}
+use Rattle.lists.specs.Tests.{test-elim}
+use Rattle.walks.specs.Machine.{Kept, Going, Found, begin, begin-going, begin-kept, going-found, left, step-less}
+use Rattle.graph.specs.Zeros.{zeros-at, padded-ext}
+use Rattle.graph.specs.Tables.{Tables, tables, enterBlock, turnOn, down, frameOf, frameAt, stageOf, machineOf, tagFrom, indexTag, indexTable, indexTable-at, length-indexTable, Ready, Lent, Numbered}
 use Rattle.graph.proofs.Marks.{length-down, mark-set}
 use Rattle.graph.proofs.Tags.{tag-none}
-use Rattle.graph.proofs.Turning.{some, places-long, start-less, edges-all, Turned, turned}
+use Rattle.graph.proofs.Turning.{some, start-less, edges-all, turned}
 
 -- tables are as long as they were
 pub record Sized (lent t : Tables) : Type 0 where

@@ -2,12 +2,12 @@
 use Prim.Native.Nat.{ℕ, zero, suc, _+_, _-_, _<_, _≤_}
 use mathlib.Core.Path.{_≡_, sym, ap, _∙_}
 use mathlib.Core.Logic.{_≢_}
-use mathlib.Core.List.{List, _∷_}
+use mathlib.Core.List.{List}
 use native.Mathlib.Omega.{arith}
 use lib.ListN.{length, getD}
 use lib.Dec.{not-T, eqb, eqb→eq}
 use Rattle.rules.specs.Records.{recordCount}
-use Rattle.rules.specs.File.{named, functionIn}
+use Rattle.rules.specs.File.{named}
 use Rattle.lists.specs.Tests.{eq→eqb, chosen, left-out}
 use Rattle.graph.specs.Between.{between}
 use Rattle.graph.specs.NextEdge.{Taken, edgeFrom}

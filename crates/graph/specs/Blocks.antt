@@ -4,18 +4,17 @@ use Prim.Native.Nat.{ℕ, zero, suc, _+_, _<_, _≤_}
 use mathlib.Core.Path.{_≡_, refl, sym, ap, _∙_, subst}
 use mathlib.Core.List.{List, [], _∷_, _++_, map}
 use native.Mathlib.Omega.{arith}
-use lib.ListN.{length, getD, length-map, length-append, List·getD-eq-default}
+use lib.ListN.{length, getD, length-map, length-append}
 use lib.Dec.{T, eqb}
-use Rattle.rules.specs.Lists.{all, has}
-use Rattle.rules.specs.Tree.{Edge, Instruction, Block, Function}
+use Rattle.rules.specs.Tree.{Edge, Instruction, Block}
 use Rattle.rules.specs.Records.{recordAt, recordCount, records}
 use Rattle.rules.specs.File.{ordered, Section, Cut, cut, named, instructionOf, opensItem, blockOf, function, functionIn}
 use Rattle.rules.specs.Graph.{blockAt, instructionsOf, edgesOut, successors}
 use Rattle.rules.specs.declared.Record.{Record}
 use Rattle.lists.specs.Tests.{passes-at}
 use Rattle.lists.specs.Maps.{map-concatMap}
-use Rattle.lists.specs.Members.{_∈_, all→∈, getD-∈}
-use Rattle.records.specs.Kinds.{Kinds, kinds-weaken}
+use Rattle.lists.specs.Members.{all→∈, getD-∈}
+use Rattle.records.specs.Kinds.{kinds-weaken}
 use Rattle.records.specs.Parts.{blockBody, inBlock, in-block, isBlock, file-blocks, isBlock-body, block-instructions-are, block-picked, targets-picked}
 use Rattle.graph.specs.Between.{between, between-all, length-between}
 use Rattle.graph.specs.Sections.{agree, places, sectionsAt, cut-between, length-sectionsAt, section-at, table-bounds, table-ascends, places-same}

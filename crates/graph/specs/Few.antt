@@ -1,15 +1,15 @@
 -- What refusal 3 leaves: no more records of a kind than first words that are its number, so a table with a place for each
 -- of the largest counts is long enough.
-use Prim.Native.Nat.{ℕ, zero, suc, _+_, _<_, _≤_}
-use mathlib.Core.Path.{_≡_, refl, sym, ap, _∙_, subst}
+use Prim.Native.Nat.{ℕ, zero, suc, _≤_}
+use mathlib.Core.Path.{sym, ap, subst}
 use mathlib.Core.Bool.{Bool, true, false, not, _&&_, _||_, cond}
-use mathlib.Core.List.{List, [], _∷_, map}
+use mathlib.Core.List.{List, _∷_}
 use native.Mathlib.Omega.{arith}
 use lib.ListN.{length, drop, length-map}
 use lib.Dec.{T, T-not, not-T, eqb, eqb→eq, leb, ltb, nltb→le}
 use Rattle.rules.specs.Limits.{recordBytes, largestBlocks, largestEdges, largestRecords, largestValues, largestInstructions}
 use Rattle.rules.specs.Lists.{count, has}
-use Rattle.rules.specs.Tree.{Edge, Function}
+use Rattle.rules.specs.Tree.{Edge}
 use Rattle.rules.specs.Records.{Words, wordAt, slotSizes, log2, encode, kind, edgeArgument, decode, recordAt, recordCount, eachFrom, records, firstWords}
 use Rattle.rules.specs.File.{Section, cut, ofKind, blockOf, function, functionIn, ordered}
 use Rattle.rules.specs.Refusals.{tooMany, allEdges}
@@ -18,7 +18,6 @@ use Rattle.rules.specs.declared.EdgeArgument.the-variants as passes
 use Rattle.rules.specs.declared.Record.{Record}
 use Rattle.rules.specs.declared.Record.the-variants as record′
 use Rattle.lists.specs.Tests.{eqb-swap, or-left, or-right}
-use Rattle.records.specs.Kinds.{kind-edgeArgument}
 use Rattle.records.specs.Parts.{cut-heads, targets-in-order}
 
 -- A RECORD OF A KIND has that number for its first word, unless the kind is 0.

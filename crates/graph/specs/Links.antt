@@ -3,7 +3,7 @@
 use Prim.Native.Nat.{ℕ, zero, suc, _+_, _-_, _<_, _≤_}
 use mathlib.Core.Path.{_≡_, refl, sym, ap, ap₂, _∙_}
 use mathlib.Core.Logic.{_≢_}
-use mathlib.Core.Bool.{Bool, true, false, not}
+use mathlib.Core.Bool.{Bool, true, false}
 use mathlib.Core.List.{List, [], _∷_, _++_, map, reverse, reverse-cons, reverse-reverse, append-assoc, append-nil}
 use native.Mathlib.Omega.{arith}
 use native.Mathlib.Numerals.{add-one}
@@ -60,6 +60,12 @@ listAt l b = listFrom (l .from) (l .next) (l .used) (getD (l .first) b 0)
 -- edges out of reachable blocks
 abbrev pub edgesOut : Function → List ℕ
 edgesOut f = concatMap (successors f) (reachable f)
+
+-- what is read: the file by its block table, and the reachable blocks by index
+pub record Walked (s places order : List ℕ) (count : ℕ) : Type 0 where
+  pub given : Given s places
+  pub counted : count ≡ length (reachable (functionIn s))
+  pub listed : order ≡ padded (length order) (reachable (functionIn s))
 
 -- what is lent: zeros, with a place for each block and for each edge
 pub record LentLinks (f : Function) (l : Links) : Type 0 where
@@ -184,10 +190,30 @@ keep-behind p b t ts xs = go (eqb b t)
 abbrev pub Inside : List ℕ → Links → Type 0
 Inside ts l = (t : ℕ) → t ∈ ts → t < length (l .first)
 
+-- and for which there is room
+pub record Linkable (ts : List ℕ) (l : Links) : Type 0 where
+  pub inside : Inside ts l
+  pub froms : l .used + length ts ≤ length (l .from)
+  pub nexts : l .used + length ts ≤ length (l .next)
+
 module _ (p : ℕ) where
+  pub edge-linkable : (t : ℕ) (ts : List ℕ) (l : Links) → Linkable (t ∷ ts) l → Linkable ts (linkEdge p l t)
+  edge-linkable t ts l h =
+      let a = h .froms in
+      let c = h .nexts in
+      record {
+        inside = λ u k. rw length-set (h .inside u (there k));
+        froms = rw length-set (omega arith);
+        nexts = rw length-set (omega arith);
+      }
+
   pub edges-first : (ts : List ℕ) (l : Links) → length (foldl (linkEdge p) l ts .first) ≡ length (l .first)
   edges-first [] l = refl
   edges-first (t ∷ ts) l = edges-first ts (linkEdge p l t) ∙ length-set (l .first) t (l .used + 1)
+
+  pub edges-used : (ts : List ℕ) (l : Links) → foldl (linkEdge p) l ts .used ≡ l .used + length ts
+  edges-used [] l = omega arith
+  edges-used (t ∷ ts) l = omega (arith, edges-used ts (linkEdge p l t))
 
   later : (t : ℕ) (ts : List ℕ) (l : Links) → Inside (t ∷ ts) l → Inside ts (linkEdge p l t)
   later t ts l i u k = rw length-set (i u (there k))

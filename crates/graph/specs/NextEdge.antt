@@ -1,5 +1,5 @@
 -- The next edge from a place on. An edge is written as a tag: 0 for none, and one more than its target for one.
-use Prim.Native.Nat.{ℕ, zero, suc, _+_, _-_, _<_, _≤_}
+use Prim.Native.Nat.{ℕ, zero, suc, _+_, _-_, _≤_}
 use mathlib.Core.Path.{_≡_, refl, ap}
 use mathlib.Core.Bool.{Bool, true, false}
 use mathlib.Core.List.{List, [], _∷_, map}
@@ -60,3 +60,24 @@ module _ (s : List ℕ) (q : ℕ) where
   pub edgeFrom-taken : (p : ℕ) → p ≤ q → q ≤ recordCount s → Taken s q (named 7 (between s p q)) (edgeFrom s p q)
   unfolding edgeFrom
   edgeFrom-taken p l k = taken-from (q - p) p (omega arith) k
+
+-- the targets from an edge on
+abbrev pub targetsFrom : List ℕ → ℕ → ℕ → ℕ → List ℕ
+targetsFrom s q zero behind = []
+targetsFrom s q (suc t) behind = t ∷ named 7 (between s behind q)
+
+module _ (s : List ℕ) (p q : ℕ) (l : p ≤ q) (k : q ≤ recordCount s) where
+  pub edgeFrom-targets : named 7 (between s p q) ≡ targetsFrom s q (edgeFrom s p q .tag) (edgeFrom s p q .behind)
+  edgeFrom-targets = go (edgeFrom s p q .tag) (edgeFrom s p q .behind) (edgeFrom-taken s q p l k)
+    where
+      go : (tag behind : ℕ) → Taken s q (named 7 (between s p q)) (record { tag = tag; behind = behind })
+          → named 7 (between s p q) ≡ targetsFrom s q tag behind
+      go zero behind h = h
+      go (suc t) behind h = h .0
+
+  pub edgeFrom-behind : (edgeFrom s p q .tag ≡ 0 → ⊥) → edgeFrom s p q .behind ≤ q
+  edgeFrom-behind = go (edgeFrom s p q .tag) (edgeFrom s p q .behind) (edgeFrom-taken s q p l k)
+    where
+      go : (tag behind : ℕ) → Taken s q (named 7 (between s p q)) (record { tag = tag; behind = behind }) → (tag ≡ 0 → ⊥) → behind ≤ q
+      go zero behind h some = absurd (some refl)
+      go (suc t) behind h some = h .1

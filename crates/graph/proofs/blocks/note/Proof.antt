@@ -1,6 +1,6 @@
 -- `graph::blocks::note` meets its contract.
 use native.Mathlib.Omega.{arith}
-use mathlib.Core.Path.{_≡_, refl}
+use mathlib.Core.Path.{refl}
 use borrow.Author.Needs.{needs}
 use Rattle.graph.proofs.blocks.note.Statement.{statement}
 use Rattle.graph.proofs.blocks.note.Tie as tie

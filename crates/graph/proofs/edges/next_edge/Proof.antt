@@ -1,9 +1,8 @@
 -- `graph::edges::next_edge` meets its contract.
 use borrow.Author.Needs.{needs}
 use Rattle.graph.proofs.Looking.{edgeFrom-here, edgeFrom-later, edgeFrom-end}
-use Rattle.graph.specs.Between.{between}
 use Rattle.graph.specs.NextEdge.{edgeTag, edgeFrom}
-use Rattle.rules.specs.Records.{recordAt, recordCount}
+use Rattle.rules.specs.Records.{recordAt}
 use native.Mathlib.Omega.{arith}
 use mathlib.Core.Path.{_≡_, refl, sym, ap, _∙_}
 use Prim.Native.Nat.{_≤_, _-_}

@@ -1,12 +1,11 @@
 -- `graph::walk::post_order` meets its contract.
 use Rattle.graph.proofs.Walking.{Sized, start-ready, turn-ready, turn-less, end-numbered}
 use Rattle.graph.proofs.Turning.{some, places-long, start-less}
-use Rattle.graph.specs.Tables.{Tables, tables, machineOf, Ready}
+use Rattle.graph.specs.Tables.{tables, machineOf, Ready}
 use Rattle.walks.specs.Machine.{left}
 use Rattle.rules.specs.File.{functionIn}
 use native.Mathlib.Omega.{arith}
-use mathlib.Core.Path.{_≡_, refl, sym, _∙_, subst}
-use Prim.Native.Nat.{_+_, _<_}
+use mathlib.Core.Path.{refl, sym, _∙_, subst}
 use Rattle.graph.proofs.walk.post_order.Statement.{statement}
 use Rattle.graph.proofs.walk.post_order.Tie as tie
 

@@ -6,7 +6,7 @@ use lib.ListN.{getD, length-set}
 use Rattle.graph.specs.NextEdge.{edgeFrom}
 use Rattle.graph.specs.declared.edges.NextEdge.{NextEdge}
 use native.Mathlib.Omega.{arith}
-use mathlib.Core.Path.{_≡_, refl, sym, ap, _∙_}
+use mathlib.Core.Path.{_≡_, sym, _∙_}
 use Prim.Native.Nat.{_+_, _-_}
 use borrow.Author.Needs.{needs}
 use Rattle.graph.proofs.walk.turn.Statement.{statement}
