@@ -6,3 +6,4 @@ pub mod NextEdge
 pub mod Tables
 pub mod Few
 pub mod Links
+pub mod Room

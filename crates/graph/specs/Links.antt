@@ -58,8 +58,8 @@ abbrev pub listAt : Links → ℕ → List ℕ
 listAt l b = listFrom (l .from) (l .next) (l .used) (getD (l .first) b 0)
 
 -- edges out of reachable blocks
-abbrev pub edgesOut : Function → List ℕ
-edgesOut f = concatMap (successors f) (reachable f)
+abbrev pub reachableEdges : Function → List ℕ
+reachableEdges f = concatMap (successors f) (reachable f)
 
 -- what is read: the file by its block table, and the reachable blocks by index
 pub record Walked (s places order : List ℕ) (count : ℕ) : Type 0 where
@@ -70,8 +70,8 @@ pub record Walked (s places order : List ℕ) (count : ℕ) : Type 0 where
 -- what is lent: zeros, with a place for each block and for each edge
 pub record LentLinks (f : Function) (l : Links) : Type 0 where
   pub blocks : length (f .blocks) ≤ length (l .first)
-  pub froms : length (edgesOut f) ≤ length (l .from)
-  pub nexts : length (edgesOut f) ≤ length (l .next)
+  pub froms : length (reachableEdges f) ≤ length (l .from)
+  pub nexts : length (reachableEdges f) ≤ length (l .next)
   pub first : Zeros (l .first)
   pub from : Zeros (l .from)
   pub next : Zeros (l .next)
@@ -240,6 +240,15 @@ module _ (f : Function) where
   abbrev into : ℕ → ℕ → List ℕ
   into b p = map (λ _. p) (keep (eqb b) (successors f p))
 
+  pub blocks-chained :
+      (qs : List ℕ) (l : Links) → ((q : ℕ) → Inside (successors f q) l) → Chained (length (concatMap (successors f) qs)) l
+      → Chained 0 (foldl (linkBlock f) l qs)
+  blocks-chained [] l i h = h
+  blocks-chained (q ∷ qs) l i h =
+      let rest = length (concatMap (successors f) qs) in
+      let k : Chained (length (successors f q) + rest) l = rw (length-append (successors f q) (concatMap (successors f) qs)) at h in
+      blocks-chained qs (linkBlock f l q) (λ x t m. rw (edges-first q (successors f q) l) (i x t m)) (edges-chained q (successors f q) rest l (i q) k)
+
   blocks-list :
       (qs : List ℕ) (l : Links) → ((q : ℕ) → Inside (successors f q) l) → Chained (length (concatMap (successors f) qs)) l → (b : ℕ)
       → listAt (foldl (linkBlock f) l qs) b ≡ concatMap (into b) (reverse qs) ++ listAt l b
@@ -275,7 +284,7 @@ module _ (f : Function) (inFile : T (numbersInFile f)) (first from next : List �
   pub successors-inside : (q : ℕ) → Inside (successors f q) lent
   successors-inside q t m = let l = successor-in-file f inFile q m in omega (arith, h .blocks)
 
-  pub lent-chained : (m : ℕ) → m ≤ length (edgesOut f) → Chained m lent
+  pub lent-chained : (m : ℕ) → m ≤ length (reachableEdges f) → Chained m lent
   lent-chained m l =
       record {
         froms = omega (arith, h .froms);
@@ -283,6 +292,12 @@ module _ (f : Function) (inFile : T (numbersInFile f)) (first from next : List �
         starts = λ b. omega (arith, zeros-at (h .first) b);
         falls = λ e k. absurd (omega arith);
       }
+
+  pub linked-chained : Chained 0 (linked f lent)
+  unfolding linked
+  linked-chained =
+      blocks-chained f (reverse (reachable f)) lent successors-inside
+      (lent-chained _ (omega (arith, length-concatMap-reverse (successors f) (reachable f))))
 
   -- the list of each block is its predecessors, once an edge, ascending by index.
   pub predecessors-linked : (b : ℕ) → listAt (linked f lent) b ≡ predecessors f b
@@ -293,7 +308,7 @@ module _ (f : Function) (inFile : T (numbersInFile f)) (first from next : List �
       ∙ append-nil (concatMap (into f b) (reverse (reverse (reachable f))))
       ∙ ap (concatMap (into f b)) (reverse-reverse (reachable f))
 
--- A list is read entry by entry.
+-- A list is read entry by entry, from its first tag to the tag 0.
 pub list-none : (from next : List ℕ) (k : ℕ) → listFrom from next k 0 ≡ []
 list-none from next zero = refl
 list-none from next (suc k) = refl

@@ -49,6 +49,13 @@ getD-padded n xs i = behind xs i
 pub length-padded-le : (n : ℕ) (xs : List ℕ) → length xs ≤ length (padded n xs)
 length-padded-le n xs = omega (arith, length-append xs (replicate (n - length xs) 0))
 
+pub length-padded : (n : ℕ) (xs : List ℕ) → length xs ≤ n → length (padded n xs) ≡ n
+length-padded n xs l =
+    omega (arith, length-append xs (replicate (n - length xs) 0), length-replicate {A = ℕ} (n - length xs) 0)
+
+pub zeros-zeros : (n : ℕ) → Zeros (replicate n 0)
+zeros-zeros n = ap (λ (k : ℕ). replicate {A = ℕ} k 0) (sym (length-replicate {A = ℕ} n 0))
+
 pub zeros-at : {table : List ℕ} → Zeros table → (i : ℕ) → getD table i 0 ≡ 0
 zeros-at {table} z i = ap (λ (t : List ℕ). getD t i 0) z ∙ getD-zeros (length table) i
 
