@@ -18,7 +18,8 @@ use Rattle.graph.specs.declared.edges.NextEdge.{NextEdge}
 use Rattle.graph.specs.Zeros.{getD-padded, length-padded-le}
 use Rattle.graph.specs.Between.{between}
 use Rattle.graph.specs.NextEdge.{edgeFrom, targetsFrom, edgeFrom-targets, edgeFrom-behind}
-use Rattle.graph.specs.Links.{Links, links, linkEdge, linkBlock, linked, LentLinks, Walked, Linkable, edge-linkable, edges-used}
+use Rattle.graph.specs.Links.{Links, links, linkEdge, linkBlock, linked, LentLinks, Walked, Linkable}
+use Rattle.graph.specs.LinkLaws.{edge-linkable, edges-used}
 use Rattle.graph.proofs.Turning.{some, places-long, end-le, start-less, edges-all}
 
 -- EDGES. What is left to link, from the edge found on, leads to the end.

@@ -6,4 +6,5 @@ pub mod NextEdge
 pub mod Tables
 pub mod Few
 pub mod Links
+pub mod LinkLaws
 pub mod Room
