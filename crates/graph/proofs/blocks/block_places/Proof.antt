@@ -16,13 +16,17 @@ use Rattle.graph.proofs.blocks.block_places.Statement.{statement}
 use Rattle.graph.proofs.blocks.block_places.Tie as tie
 
 abbrev Inv-loop : tie.InvT-loop
-Inv-loop s places₀ n found₀ i₀ places found i = (i ≤ recordCount s) × (length places ≡ length places₀) × (found + length (placesFrom s i) ≡ length (blockPlaces s)) × (filled s places found i ≡ sets places₀ 0 (blockTable s))
+Inv-loop s places₀ n found₀ i₀ places found i =
+    (i ≤ recordCount s) × (length places ≡ length places₀) × (found + length (placesFrom s i) ≡ length (blockPlaces s))
+    × (filled s places found i ≡ sets places₀ 0 (blockTable s))
 
 abbrev μ-loop : tie.MeasureT-loop
 μ-loop s places₀ n found₀ i₀ places found i = recordCount s - i
 
 loop-holds : tie.Need-loop-holds Inv-loop μ-loop
-loop-holds c = let s = c .before .before .args .s .now in (omega arith, refl, omega (arith, ap length (placesFrom-all s)), filled-all s (c .before .before .args .places .now))
+loop-holds c =
+    let start = c .before .before in
+    let s = start .args .s .now in (omega arith, refl, omega (arith, ap length (placesFrom-all s)), filled-all s (start .args .places .now))
 
 record-at-requires : tie.Need-record-at-requires Inv-loop μ-loop
 record-at-requires c κs = search needs
@@ -31,7 +35,9 @@ kind-of-requires : tie.Need-kind-of-requires Inv-loop μ-loop
 kind-of-requires c κs = search needs
 
 note-requires : tie.Need-note-requires Inv-loop μ-loop
-note-requires c κs = omega (arith, length-blockPlaces (c .before .before .before .before .before .before .before .args .s .now), c .before .before .before .before .before .before .before .pre .0)
+note-requires c κs =
+    let start = c .before .before .before .before .before .before .before in
+    omega (arith, length-blockPlaces (start .args .s .now), start .pre .0)
 
 add-i : tie.Need-add-i Inv-loop μ-loop
 add-i c = search needs
@@ -41,14 +47,18 @@ loop-less c = search needs
 
 loop-again : tie.Need-loop-again Inv-loop μ-loop
 loop-again c =
-    let s = c .before .before .before .before .before .before .before .before .before .before .args .s .now in
-    let k : c .before .before .before .kind-of .result ≡ kind (recordAt s (c .before .before .before .before .before .before .before .loop .i)) = cc in
-    let l = left-more s (c .before .before .before .before .before .before .before .loop .i) (c .before .before .before .kind-of .result) (search needs) k in
-    let f = filled-more s (c .before .before .before .before .before .before .before .loop .i) (c .before .before .before .kind-of .result) (search needs) k (c .before .before .before .before .before .before .before .loop .places) (c .before .before .before .before .before .before .before .loop .found) in (
+    let start = c .before .before .before .before .before .before .before .before .before .before in
+    let loop = c .before .before .before .before .before .before .before .loop in
+    let kind-of = c .before .before .before .kind-of in
+    let note = c .before .before .note in
+    let s = start .args .s .now in
+    let k : kind-of .result ≡ kind (recordAt s (loop .i)) = cc in
+    let l = left-more s (loop .i) (kind-of .result) (search needs) k in
+    let f = filled-more s (loop .i) (kind-of .result) (search needs) k (loop .places) (loop .found) in (
       search needs,
-      ap length (c .before .before .note .ensures .0) ∙ length-sets (c .before .before .before .before .before .before .before .loop .places) (c .before .before .before .before .before .before .before .loop .found) (placeIf (eqb (c .before .before .before .kind-of .result) 2) (c .before .before .before .before .before .before .before .loop .i) []) ∙ c .before .before .before .before .before .before .before .loop .inv .1,
-      omega (arith, c .before .before .note .ensures .1),
-      (λ t. filled s (c .before .before .note .ensures .0 t) (c .before .before .note .ensures .1 t) (c .before .before .before .before .before .before .before .loop .i + 1)) ∙ sym f ∙ c .before .before .before .before .before .before .before .loop .inv .3,
+      ap length (note .ensures .0) ∙ length-sets (loop .places) (loop .found) (placeIf (eqb (kind-of .result) 2) (loop .i) []) ∙ loop .inv .1,
+      omega (arith, note .ensures .1),
+      (λ t. filled s (note .ensures .0 t) (note .ensures .1 t) (loop .i + 1)) ∙ sym f ∙ loop .inv .3,
     )
 
 mul-places : tie.Need-mul-places Inv-loop μ-loop
@@ -62,12 +72,13 @@ same-length c = search needs
 
 returns : tie.Need-returns Inv-loop μ-loop
 returns c =
-    let s = c .before .before .before .before .args .s .now in
+    let start = c .before .before .before .before in
+    let s = start .args .s .now in
     let e : c .before .loop .i ≡ recordCount s = omega arith in
     let n = length-blockPlaces s in (
       omega (arith, ap length (placesFrom-done s (c .before .loop .i) e)),
       sym (filled-done s (c .before .loop .places) (c .before .loop .found) (c .before .loop .i) e) ∙ c .before .loop .inv .3
-          ∙ sets-padded (c .before .before .before .before .args .places .now) (blockTable s) (c .before .before .before .before .pre .1) (omega (arith, length-blockTable s, c .before .before .before .before .pre .0)),
+          ∙ sets-padded (start .args .places .now) (blockTable s) (start .pre .1) (omega (arith, length-blockTable s, start .pre .0)),
     )
 
 pub block-places-spec : {M : Type 1} → statement M

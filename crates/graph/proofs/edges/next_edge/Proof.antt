@@ -29,21 +29,31 @@ add-i c = search needs
 
 returns : tie.Need-returns Inv-loop μ-loop
 returns c =
-    let s = c .before .before .before .before .before .before .args .s .now in
-    let e : c .before .edge-tag .result ≡ edgeTag (recordAt s (c .before .before .before .before .loop .i)) = c .before .edge-tag .ensures ∙ ap edgeTag (c .before .before .record-at .ensures) in
-    sym (edgeFrom-here s (c .before .before .before .before .loop .i) (c .before .before .before .before .before .before .args .end) (c .before .edge-tag .result) (c .before .before .before .loop-test .taken) (c .before .before .before .before .before .before .pre .1) e (c .if1 .taken)) ∙ c .before .before .before .before .loop .inv .1
+    let start = c .before .before .before .before .before .before in
+    let loop = c .before .before .before .before .loop in
+    let test = c .before .before .before .loop-test in
+    let record-at = c .before .before .record-at in
+    let s = start .args .s .now in
+    let e : c .before .edge-tag .result ≡ edgeTag (recordAt s (loop .i)) = c .before .edge-tag .ensures ∙ ap edgeTag (record-at .ensures) in
+    sym (edgeFrom-here s (loop .i) (start .args .end) (c .before .edge-tag .result) (test .taken) (start .pre .1) e (c .if1 .taken)) ∙ loop .inv .1
 
 loop-less : tie.Need-loop-less Inv-loop μ-loop
 loop-less c = search needs
 
 loop-again : tie.Need-loop-again Inv-loop μ-loop
 loop-again c =
-    let s = c .before .before .before .before .before .before .args .s .now in
-    let e : c .before .edge-tag .result ≡ edgeTag (recordAt s (c .before .before .before .before .loop .i)) = c .before .edge-tag .ensures ∙ ap edgeTag (c .before .before .record-at .ensures) in
-    (search needs, sym (edgeFrom-later s (c .before .before .before .before .loop .i) (c .before .before .before .before .before .before .args .end) (c .before .edge-tag .result) (c .before .before .before .loop-test .taken) (c .before .before .before .before .before .before .pre .1) e (c .if1 .left)) ∙ c .before .before .before .before .loop .inv .1)
+    let start = c .before .before .before .before .before .before in
+    let loop = c .before .before .before .before .loop in
+    let test = c .before .before .before .loop-test in
+    let record-at = c .before .before .record-at in
+    let s = start .args .s .now in
+    let e : c .before .edge-tag .result ≡ edgeTag (recordAt s (loop .i)) = c .before .edge-tag .ensures ∙ ap edgeTag (record-at .ensures) in
+    (search needs, sym (edgeFrom-later s (loop .i) (start .args .end) (c .before .edge-tag .result) (test .taken) (start .pre .1) e (c .if1 .left)) ∙ loop .inv .1)
 
 returns-2 : tie.Need-returns-2 Inv-loop μ-loop
-returns-2 c = sym (edgeFrom-end (c .before .before .before .args .s .now) (c .before .loop .i) (c .before .before .before .args .end) (omega arith)) ∙ c .before .loop .inv .1
+returns-2 c =
+    let start = c .before .before .before in
+    sym (edgeFrom-end (start .args .s .now) (c .before .loop .i) (start .args .end) (omega arith)) ∙ c .before .loop .inv .1
 
 pub next-edge-spec : {M : Type 1} → statement M
 next-edge-spec =

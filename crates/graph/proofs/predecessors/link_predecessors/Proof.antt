@@ -33,7 +33,9 @@ known c =
     (c .before .loop .inv) (c .loop-test .taken)
 
 loop-holds : tie.Need-loop-holds Inv-loop μ-loop
-loop-holds c = listing-start (c .before .before .before .before .before .before .args .s .now) (c .before .before .before .before .before .before .args .places .now) (c .before .before .before .before .before .before .args .order .now) (c .before .before .before .before .before .before .args .count) (c .before .before .before .before .before .before .pre .0) (c .before .before .before .before .before .before .args .first .now) (c .before .before .before .before .before .before .args .from .now) (c .before .before .before .before .before .before .args .next .now) (c .before .before .before .before .before .before .pre .1)
+loop-holds c =
+    let start = c .before .before .before .before .before .before in
+    listing-start (start .args .s .now) (start .args .places .now) (start .args .order .now) (start .args .count) (start .pre .0) (start .args .first .now) (start .args .from .now) (start .args .next .now) (start .pre .1)
 
 sub-i : tie.Need-sub-i Inv-loop μ-loop
 sub-i c = search needs
@@ -63,17 +65,24 @@ shared-slice-read-link-block-2 : tie.Need-shared-slice-read-link-block-2 Inv-loo
 shared-slice-read-link-block-2 c = known (c .before .before .before) .listed
 
 link-block-requires : tie.Need-link-block-requires Inv-loop μ-loop
-link-block-requires c κs = (known (c .before .before .before .before .before .before) .starts, known (c .before .before .before .before .before .before) .ends, known (c .before .before .before .before .before .before) .linkable)
+link-block-requires c κs =
+    let inside = c .before .before .before .before .before .before in
+    (known inside .starts, known inside .ends, known inside .linkable)
 
 loop-less : tie.Need-loop-less Inv-loop μ-loop
 loop-less c = omega arith
 
 loop-again : tie.Need-loop-again Inv-loop μ-loop
 loop-again c =
-    let s = c .before .before .before .before .before .before .before .before .before .before .before .before .before .before .before .before .before .before .before .before .before .args .s .now in
-    let kept = c .before .before .before .before .before .before .link-block .kept .1 .1 .1 in
-    listing-more s (c .before .before .before .before .before .before .before .before .before .before .before .before .before .before .before .before .before .before .before .before .before .args .places .now) (c .before .before .before .before .before .before .before .before .before .before .before .before .before .before .before .before .before .before .before .before .before .args .order .now) (c .before .before .before .before .before .before .before .before .before .before .before .before .before .before .before .before .before .before .before .before .before .args .count) (c .before .before .before .before .before .before .before .before .before .before .before .before .before .before .before .before .before .before .before .before .before .pre .0) (lent (c .before .before .before .before .before .before .before .before .before .before .before .before .before .before .before .before .before .before .before .before .before)) (links-now (c .before .before .before .before .before .before .before .before .before .before .before .before .before)) (c .before .before .before .before .before .before .before .before .before .before .before .before .before .before .before .before .before .before .before .before .before .pre .1) (c .before .before .before .before .before .before .before .before .before .before .before .before .before .before .loop .i) (c .before .before .before .before .before .before .before .before .before .before .before .before .before .before .loop .inv) (c .before .before .before .before .before .before .before .before .before .before .before .before .before .loop-test .taken)
-    _ (c .before .before .before .before .before .before .link-block .ensures) (kept .0) (kept .1 .0) (kept .1 .1 .0)
+    let start = c .before .before .before .before .before .before .before .before .before .before .before .before .before .before .before .before .before .before .before .before .before in
+    let loop = c .before .before .before .before .before .before .before .before .before .before .before .before .before .before .loop in
+    let inside = c .before .before .before .before .before .before .before .before .before .before .before .before .before in
+    let test = c .before .before .before .before .before .before .before .before .before .before .before .before .before .loop-test in
+    let link-block = c .before .before .before .before .before .before .link-block in
+    let s = start .args .s .now in
+    let kept = link-block .kept .1 .1 .1 in
+    listing-more s (start .args .places .now) (start .args .order .now) (start .args .count) (start .pre .0) (lent start) (links-now inside) (start .pre .1) (loop .i) (loop .inv) (test .taken)
+    _ (link-block .ensures) (kept .0) (kept .1 .0) (kept .1 .1 .0)
 
 same-length : tie.Need-same-length Inv-loop μ-loop
 same-length c = c .before .loop .inv .first
@@ -86,8 +95,9 @@ same-length-3 c = c .before .loop .inv .next
 
 returns : tie.Need-returns Inv-loop μ-loop
 returns c =
-    let s = c .before .before .before .before .before .before .before .before .args .s .now in
-    listing-done s (c .before .before .before .before .before .before .before .before .args .places .now) (c .before .before .before .before .before .before .before .before .args .order .now) (c .before .before .before .before .before .before .before .before .args .count) (c .before .before .before .before .before .before .before .before .pre .0) (lent (c .before .before .before .before .before .before .before .before)) _ (c .before .before .before .before .before .before .before .before .pre .1) (c .before .loop .i) (c .before .loop .inv) (omega arith)
+    let start = c .before .before .before .before .before .before .before .before in
+    let s = start .args .s .now in
+    listing-done s (start .args .places .now) (start .args .order .now) (start .args .count) (start .pre .0) (lent start) _ (start .pre .1) (c .before .loop .i) (c .before .loop .inv) (omega arith)
 
 pub link-predecessors-spec : {M : Type 1} → statement M
 link-predecessors-spec =

@@ -36,13 +36,17 @@ mul-b : tie.Need-mul-b
 mul-b c = omega (arith, known (c .before .before .before .before .before .before .before))
 
 slice-read-b : tie.Need-slice-read-b
-slice-read-b c = omega (arith, known (c .before .before .before .before .before .before .before .before), c .before .before .before .before .before .before .before .before .pre .0)
+slice-read-b c =
+    let start = c .before .before .before .before .before .before .before .before in
+    omega (arith, known start, start .pre .0)
 
 mul-next-edge : tie.Need-mul-next-edge
 mul-next-edge c = omega (arith, known (c .before .before .before .before .before .before .before .before))
 
 slice-read-next-edge : tie.Need-slice-read-next-edge
-slice-read-next-edge c = omega (arith, known (c .before .before .before .before .before .before .before .before .before), c .before .before .before .before .before .before .before .before .before .pre .0)
+slice-read-next-edge c =
+    let start = c .before .before .before .before .before .before .before .before .before in
+    omega (arith, known start, start .pre .0)
 
 add-next-edge : tie.Need-add-next-edge
 add-next-edge c = omega (arith, known (c .before .before .before .before .before .before .before .before .before))
@@ -54,10 +58,14 @@ shared-slice-read-next-edge : tie.Need-shared-slice-read-next-edge
 shared-slice-read-next-edge c = omega (arith, known (c .before .before .before .before .before .before .before .before .before .before))
 
 next-edge-requires : tie.Need-next-edge-requires
-next-edge-requires c κs = (known (c .before .before .before .before .before .before .before .before .before .before) .looks, known (c .before .before .before .before .before .before .before .before .before .before) .ends)
+next-edge-requires c κs =
+    let inside = c .before .before .before .before .before .before .before .before .before .before in
+    (known inside .looks, known inside .ends)
 
 finish-requires : tie.Need-finish-requires
-finish-requires c κs = (c .before .before .before .before .before .before .before .before .before .before .before .before .before .before .before .before .pre .0, known (c .before .before .before .before .before .before .before .before .before .before .before .before .before .before .before .before) .stack, known (c .before .before .before .before .before .before .before .before .before .before .before .before .before .before .before .before) .next, known (c .before .before .before .before .before .before .before .before .before .before .before .before .before .before .before .before) .order, known (c .before .before .before .before .before .before .before .before .before .before .before .before .before .before .before .before) .index)
+finish-requires c κs =
+    let start = c .before .before .before .before .before .before .before .before .before .before .before .before .before .before .before .before in
+    (start .pre .0, known start .stack, known start .next, known start .order, known start .index)
 
 same-length : tie.Need-same-length
 same-length c = search needs
@@ -72,33 +80,53 @@ same-length-4 : tie.Need-same-length-4
 same-length-4 c = search needs
 
 returns : tie.Need-returns
-returns c = c .before .before .before .before .before .before .before .before .finish .ensures ∙ sym (turn-finish (c .before .before .before .before .before .before .before .before .before .before .before .before .before .before .before .before .before .before .before .before .before .before .before .before .before .args .s .now) (c .before .before .before .before .before .before .before .before .before .before .before .before .before .before .before .before .before .before .before .before .before .before .before .before .before .args .places .now) (before (c .before .before .before .before .before .before .before .before .before .before .before .before .before .before .before .before .before .before .before .before .before .before .before .before .before)) (c .before .before .before .before .before .before .before .before .before .before .before .before .before .before .next-edge .result) (c .before .before .before .before .before .before .before .before .before .before .before .before .before .before .next-edge .ensures) (c .before .before .before .before .before .before .before .before .before .before .before .before .before .if1 .taken))
+returns c =
+    let start = c .before .before .before .before .before .before .before .before .before .before .before .before .before .before .before .before .before .before .before .before .before .before .before .before .before in
+    let next-edge = c .before .before .before .before .before .before .before .before .before .before .before .before .before .before .next-edge in
+    let if1 = c .before .before .before .before .before .before .before .before .before .before .before .before .before .if1 in
+    let finish = c .before .before .before .before .before .before .before .before .finish in
+    finish .ensures ∙ sym (turn-finish (start .args .s .now) (start .args .places .now) (before start) (next-edge .result) (next-edge .ensures) (if1 .taken))
 
 mul-next : tie.Need-mul-next
 mul-next c = omega (arith, known (c .before .before .before .before .before .before .before .before .before .before .before .before))
 
 slice-write-next : tie.Need-slice-write-next
-slice-write-next c = omega (arith, known (c .before .before .before .before .before .before .before .before .before .before .before .before), c .before .before .before .before .before .before .before .before .before .before .before .before .pre .0)
+slice-write-next c =
+    let start = c .before .before .before .before .before .before .before .before .before .before .before .before in
+    omega (arith, known start, start .pre .0)
 
 sub-target : tie.Need-sub-target
 sub-target c = search needs
 
 mul-if2 : tie.Need-mul-if2
-mul-if2 c = omega (arith, target (c .before .before .before .before .before .before .before .before .before .before .before .before) (c .before .next-edge .result) (c .before .next-edge .ensures) (c .if1 .left))
+mul-if2 c =
+    let inside = c .before .before .before .before .before .before .before .before .before .before .before .before in
+    omega (arith, target inside (c .before .next-edge .result) (c .before .next-edge .ensures) (c .if1 .left))
 
 slice-read-if2 : tie.Need-slice-read-if2
-slice-read-if2 c = target (c .before .before .before .before .before .before .before .before .before .before .before .before .before) (c .before .before .next-edge .result) (c .before .before .next-edge .ensures) (c .before .if1 .left) .index
+slice-read-if2 c =
+    let inside = c .before .before .before .before .before .before .before .before .before .before .before .before .before in
+    let next-edge = c .before .before .next-edge in
+    target inside (next-edge .result) (next-edge .ensures) (c .before .if1 .left) .index
 
 same-length-5 : tie.Need-same-length-5
 same-length-5 c = search needs
 
 returns-2 : tie.Need-returns-2
-returns-2 c = sym (turn-skip (c .before .before .before .before .before .before .before .before .before .before .before .before .before .before .args .s .now) (c .before .before .before .before .before .before .before .before .before .before .before .before .before .before .args .places .now) (before (c .before .before .before .before .before .before .before .before .before .before .before .before .before .before)) (c .before .before .before .next-edge .result) (c .before .before .before .next-edge .ensures) (c .before .before .if1 .left) (c .if2 .taken))
+returns-2 c =
+    let start = c .before .before .before .before .before .before .before .before .before .before .before .before .before .before in
+    let next-edge = c .before .before .before .next-edge in
+    let if1 = c .before .before .if1 in
+    sym (turn-skip (start .args .s .now) (start .args .places .now) (before start) (next-edge .result) (next-edge .ensures) (if1 .left) (c .if2 .taken))
 
 enter-requires : tie.Need-enter-requires
 enter-requires c κs =
-    let known-target = target (c .before .before .before .before .before .before .before .before .before .before .before .before .before .before .before .before .before) (c .before .before .before .before .before .before .next-edge .result) (c .before .before .before .before .before .before .next-edge .ensures) (c .before .before .before .before .before .if1 .left) in
-    let room = known-target .room (c .before .before .before .if2 .left) in
+    let inside = c .before .before .before .before .before .before .before .before .before .before .before .before .before .before .before .before .before in
+    let next-edge = c .before .before .before .before .before .before .next-edge in
+    let if1 = c .before .before .before .before .before .if1 in
+    let if2 = c .before .before .before .if2 in
+    let known-target = target inside (next-edge .result) (next-edge .ensures) (if1 .left) in
+    let room = known-target .room (if2 .left) in
     (known-target .listed, known-target .starts, known-target .index, room .0, rw length-set (room .1))
 
 same-length-6 : tie.Need-same-length-6
@@ -111,7 +139,13 @@ same-length-8 : tie.Need-same-length-8
 same-length-8 c = c .before .before .before .before .before .before .enter .kept .1 .1 .1 .0 ∙ simp length-set
 
 returns-3 : tie.Need-returns-3
-returns-3 c = c .before .before .before .before .before .before .enter .ensures (c .before .before .before .before .before .before .before .before .before .before .before .before .before .before .before .before .before .before .before .before .before .before .before .before .args .order .now) ∙ sym (turn-enter (c .before .before .before .before .before .before .before .before .before .before .before .before .before .before .before .before .before .before .before .before .before .before .before .before .args .s .now) (c .before .before .before .before .before .before .before .before .before .before .before .before .before .before .before .before .before .before .before .before .before .before .before .before .args .places .now) (before (c .before .before .before .before .before .before .before .before .before .before .before .before .before .before .before .before .before .before .before .before .before .before .before .before)) (c .before .before .before .before .before .before .before .before .before .before .before .before .before .next-edge .result) (c .before .before .before .before .before .before .before .before .before .before .before .before .before .next-edge .ensures) (c .before .before .before .before .before .before .before .before .before .before .before .before .if1 .left) (c .before .before .before .before .before .before .before .before .before .before .if2 .left))
+returns-3 c =
+    let start = c .before .before .before .before .before .before .before .before .before .before .before .before .before .before .before .before .before .before .before .before .before .before .before .before in
+    let next-edge = c .before .before .before .before .before .before .before .before .before .before .before .before .before .next-edge in
+    let if1 = c .before .before .before .before .before .before .before .before .before .before .before .before .if1 in
+    let if2 = c .before .before .before .before .before .before .before .before .before .before .if2 in
+    let enter = c .before .before .before .before .before .before .enter in
+    enter .ensures (start .args .order .now) ∙ sym (turn-enter (start .args .s .now) (start .args .places .now) (before start) (next-edge .result) (next-edge .ensures) (if1 .left) (if2 .left))
 
 pub turn-spec : {M : Type 1} → statement M
 turn-spec =
