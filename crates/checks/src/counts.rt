@@ -12,7 +12,7 @@ use rules::LARGEST_RECORDS;
 use rules::LARGEST_VALUES;
 use rules::RECORD_BYTES;
 
-fn one_if_same(a: u32, b: u32) -> usize
+pub fn one_if_same(a: u32, b: u32) -> usize
     ensures { λ r. ⌜ r ≡ bit (eqb a b) ⌝ }
 {
     if a == b {

@@ -1,10 +1,15 @@
 // Refusal 4: the order of records, words outside the table, and blocks numbered by their position.
 ghost use mathlib.Core.Path.{_≡_};
 ghost use Prim.Native.Nat.{_<_};
-ghost use Rattle.rules.specs.Records.{records};
-ghost use Rattle.rules.specs.File.{follows, ordered};
+ghost use mathlib.Core.Bool.{not, _&&_, _||_};
+ghost use lib.Dec.{eqb};
+ghost use Rattle.rules.specs.Records.{encode, kind, records};
+ghost use Rattle.rules.specs.File.{follows, ordered, functionIn};
+ghost use Rattle.rules.specs.Refusals.{numberedFrom};
+use crate::counts::one_if_same;
 use records::kind_of;
 use records::record_at;
+use records::words_of;
 use rules::RECORD_BYTES;
 use rules::Record;
 
@@ -54,4 +59,43 @@ pub fn in_order(s: &[u8]) -> bool
         i += 1;
     }
     4 <= p
+}
+
+// Whether a record that opens a block has this number; another record has any.
+fn numbered_as(r: Record, number: usize) -> bool
+    ensures { λ x. ⌜ x ≡ (not (eqb 2 (kind r)) || eqb (encode r .third) number) ⌝ }
+{
+    let w = words_of(r);
+    if w.kind != 2 {
+        return true;
+    }
+    w.third as usize == number
+}
+
+// Whether each block's number is its position.
+pub fn blocks_numbered(s: &[u8]) -> bool
+    ensures { λ r. ⌜ r ≡ numberedFrom 0 (functionIn (now (s .entry)) .blocks) ⌝ }
+{
+    let n = s.len() / RECORD_BYTES;
+    let mut number: usize = 0;
+    let mut i: usize = 0;
+    while i < n {
+        let r = record_at(s, i);
+        if !numbered_as(r, number) {
+            return false;
+        }
+        number += one_if_same(2, kind_of(r));
+        i += 1;
+    }
+    true
+}
+
+// Whether a file is malformed: out of order, a word outside the table, no block, or a block not numbered by its position.
+pub fn malformed(s: &[u8]) -> bool
+    ensures { λ r. ⌜ r ≡ not (ordered 0 (records (now (s .entry))) && numberedFrom 0 (functionIn (now (s .entry)) .blocks)) ⌝ }
+{
+    if in_order(s) {
+        return !blocks_numbered(s);
+    }
+    true
 }

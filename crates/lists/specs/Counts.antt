@@ -2,7 +2,7 @@
 use Prim.Native.Nat.{suc, _+_, _≤_}
 use mathlib.Core.Path.{_≡_}
 use mathlib.Core.Bool.{Bool, true, false}
-use mathlib.Core.List.{List, _∷_}
+use mathlib.Core.List.{List, [], _∷_, _++_}
 use native.Mathlib.Omega.{arith}
 use Rattle.rules.specs.Lists.{count}
 use Rattle.rules.specs.Records.{bit}
@@ -17,3 +17,7 @@ count-more p x xs = go (p x)
     go : (b : Bool) → elim b [ true ↦ suc (count p xs) | false ↦ count p xs ] ≡ bit b + count p xs
     go true = omega arith
     go false = omega arith
+
+pub count-append : {A : Type 0} (p : A → Bool) (xs ys : List A) → count p (xs ++ ys) ≡ count p xs + count p ys
+count-append p [] ys = omega arith
+count-append p (x ∷ xs) ys = omega (arith, count-more p x (xs ++ ys), count-more p x xs, count-append p xs ys)

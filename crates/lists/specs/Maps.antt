@@ -53,6 +53,12 @@ module _ {A : Type 0} where
   all-append p (x ∷ xs) ys s t =
       and-intro (p x) (all p (xs ++ ys)) (and-left (p x) (all p xs) s) (all-append p xs ys (and-right (p x) (all p xs) s) t)
 
+  pub all-apart : (p : A → Bool) (xs ys : List A) → T (all p (xs ++ ys)) → T (all p xs) × T (all p ys)
+  all-apart p [] ys h = (tt, h)
+  all-apart p (x ∷ xs) ys h =
+      let rest = all-apart p xs ys (and-right (p x) (all p (xs ++ ys)) h) in
+      (and-intro (p x) (all p xs) (and-left (p x) (all p (xs ++ ys)) h) (rest .0), rest .1)
+
   pub all-weaken : (p q : A → Bool) → ((x : A) → T (p x) → T (q x)) → (xs : List A) → T (all p xs) → T (all q xs)
   all-weaken p q w [] t = tt
   all-weaken p q w (x ∷ xs) t =
@@ -64,3 +70,32 @@ module _ {A : Type 0} where
       and-intro (p x && q x) (all (λ y. p y && q y) xs)
       (and-intro (p x) (q x) (and-left (p x) (all p xs) s) (and-left (q x) (all q xs) t))
       (all-and p q xs (and-right (p x) (all p xs) s) (and-right (q x) (all q xs) t))
+
+module _ {A B : Type 0} where
+  pub all-map : (p : B → Bool) (g : A → B) (xs : List A) → all p (map g xs) ≡ all (λ x. p (g x)) xs
+  all-map p g [] = refl
+  all-map p g (x ∷ xs) = ap (λ t. p (g x) && t) (all-map p g xs)
+
+  -- a test of what three lists give for each member, together and apart
+  pub all-three : (p : B → Bool) (a b c : A → List B) (xs : List A) → T (all p (concatMap (λ x. a x ++ (b x ++ c x)) xs))
+      → T (all p (concatMap a xs)) × T (all p (concatMap b xs)) × T (all p (concatMap c xs))
+  all-three p a b c [] h = (tt, tt, tt)
+  all-three p a b c (x ∷ xs) h =
+      let here = all-apart p (a x ++ (b x ++ c x)) (concatMap (λ y. a y ++ (b y ++ c y)) xs) h in
+      let first = all-apart p (a x) (b x ++ c x) (here .0) in
+      let second = all-apart p (b x) (c x) (first .1) in
+      let rest = all-three p a b c xs (here .1) in (
+        all-append p (a x) (concatMap a xs) (first .0) (rest .0),
+        all-append p (b x) (concatMap b xs) (second .0) (rest .1),
+        all-append p (c x) (concatMap c xs) (second .1) (rest .2),
+      )
+
+  pub all-of-three : (p : B → Bool) (a b c : A → List B) (xs : List A) → T (all p (concatMap a xs)) → T (all p (concatMap b xs)) → T (all p (concatMap c xs))
+      → T (all p (concatMap (λ x. a x ++ (b x ++ c x)) xs))
+  all-of-three p a b c [] f g h = tt
+  all-of-three p a b c (x ∷ xs) f g h =
+      let fs = all-apart p (a x) (concatMap a xs) f in
+      let gs = all-apart p (b x) (concatMap b xs) g in
+      let hs = all-apart p (c x) (concatMap c xs) h in
+      all-append p (a x ++ (b x ++ c x)) (concatMap (λ y. a y ++ (b y ++ c y)) xs)
+      (all-append p (a x) (b x ++ c x) (fs .0) (all-append p (b x) (c x) (gs .0) (hs .0))) (all-of-three p a b c xs (fs .1) (gs .1) (hs .1))

@@ -2,7 +2,7 @@
 use Prim.Native.Nat.{ℕ}
 use mathlib.Core.Path.{_≡_, refl}
 use mathlib.Core.Logic.{_≢_}
-use mathlib.Core.Bool.{Bool, true, false, not, _&&_, _||_}
+use mathlib.Core.Bool.{Bool, true, false, not, _&&_, _||_, cond}
 use mathlib.Core.List.{List, [], _∷_}
 use lib.Dec.{T, T-not, not-T, eqb, eqb→eq, eqb-refl}
 use Rattle.rules.specs.Lists.{all, has}
@@ -18,6 +18,11 @@ pub if-elim :
     → P (elim a [ true ↦ x | false ↦ y ])
 if-elim P true x y f g = f tt
 if-elim P false x y f g = g tt
+
+-- and of a choice between tests
+pub T-cond : (a x y : Bool) → (T a → T x) → (T (not a) → T y) → T (cond a x y)
+T-cond true x y f g = f tt
+T-cond false x y f g = g tt
 
 -- tests that pass together are equal
 pub T-ext : (a b : Bool) → (T a → T b) → (T b → T a) → a ≡ b

@@ -3,9 +3,10 @@ use Prim.Native.Nat.{ℕ}
 use mathlib.Core.Path.{_≡_, refl, sym, ap, _∙_}
 use mathlib.Core.Bool.{Bool, true, false, not}
 use mathlib.Core.List.{List, [], _∷_, _++_, map, append-nil}
-use lib.Dec.{T, eqb}
+use lib.Dec.{T, eqb, ltb}
 use Rattle.rules.specs.Lists.{all, concatMap}
-use Rattle.rules.specs.Records.{Words, encode, kind}
+use Rattle.rules.specs.Records.{encode, kind}
+use Rattle.rules.specs.declared.Words.{Words}
 use Rattle.lists.specs.Tests.{and-intro, and-left, and-right, chosen, left-out}
 use Rattle.lists.specs.Maps.{all-append, all-weaken}
 use Rattle.rules.specs.File.{Cut, cut, ofKind}
@@ -105,3 +106,22 @@ cut-sections opens head body o k (x ∷ xs) =
     cut-section opens (head x) (body x) (concatMap (λ y. head y ∷ body y) xs) (o x) (k x)
     ∙ ap (λ (d : Cut). record { front = []; sections = record { head = head x; body = body x ++ d .front } ∷ d .sections }) (cut-sections opens head body o k xs)
     ∙ ap (λ (t : List Record). record { front = []; sections = record { head = head x; body = t } ∷ map (λ y. record { head = head y; body = body y }) xs }) (append-nil (body x))
+
+-- every kind is below 16
+pub kind-small : (r : Record) → T (ltb (kind r) 16)
+kind-small (record′.Value _ _) = tt
+kind-small (record′.Block _ _) = tt
+kind-small (record′.Parameter _) = tt
+kind-small (record′.Instruction _ _ _) = tt
+kind-small (record′.Result _) = tt
+kind-small (record′.Argument _) = tt
+kind-small (record′.Edge _) = tt
+kind-small (record′.EdgeArgument x) = kind-edgeArgument (λ k. ltb k 16) x tt
+kind-small (record′.Context _) = tt
+kind-small (record′.Slot _) = tt
+kind-small (record′.MapEntry _ _) = tt
+kind-small (record′.SlotAddress _ _) = tt
+kind-small (record′.Store _ _) = tt
+kind-small (record′.Load _ _ _) = tt
+kind-small record′.Jump = tt
+kind-small record′.Outside = tt

@@ -3,3 +3,4 @@ pub mod Places
 pub mod Reading
 pub mod InOrder
 pub mod Parts
+pub mod Writing

@@ -6,8 +6,9 @@ use mathlib.Core.List.{List, [], _∷_, _++_, map}
 use lib.Dec.{T, eqb, eqb→eq}
 use Rattle.rules.specs.Lists.{all, concatMap, has}
 use Rattle.rules.specs.Tree.{Edge, Instruction, Block}
-use Rattle.rules.specs.Records.{Words, encode, kind, edgeArgument}
-use Rattle.rules.specs.File.{followers, ordered, Section, cut, ofKind, named, edgeOf, edgesOf, instructionOf, itemOf, opensItem, blockOf, function}
+use Rattle.rules.specs.Records.{encode, kind, edgeArgument}
+use Rattle.rules.specs.declared.Words.{Words}
+use Rattle.rules.specs.File.{followers, ordered, Section, Cut, cut, ofKind, named, edgeOf, edgesOf, instructionOf, itemOf, opensItem, blockOf, function}
 use Rattle.rules.specs.Graph.{instructionsAmong, instructionsOf}
 use Rattle.rules.specs.Refusals.{allInstructions, allEdges}
 use Rattle.rules.specs.declared.EdgeArgument.{EdgeArgument}
@@ -227,3 +228,19 @@ module _ (rs : List Record) (h : T (ordered 0 rs)) where
   edgeArguments-in-order =
       concatMap-concatMap (λ (e : Edge). e .arguments) (λ (i : Instruction). i .edges) (allInstructions (function rs))
       ∙ instructions-picked rs h 8 argument tt tt (λ i. concatMap (λ e. e .arguments) (i .edges)) passed-picked tt tt
+
+-- BLOCKS ONE RECORD MORE, for a loop over records.
+pub blocks-more : (r : Record) (rs : List Record)
+    → function (r ∷ rs) .blocks
+    ≡ elim (eqb 2 (kind r)) [ true ↦ blockOf (record { head = r; body = cut (eqb 2) rs .front }) ∷ function rs .blocks | false ↦ function rs .blocks ]
+unfolding function
+blocks-more r rs = go (eqb 2 (kind r))
+  where
+    go : (b : Bool)
+        → map blockOf (elim b as (λ _. Cut) [
+          | true ↦ record { front = []; sections = record { head = r; body = cut (eqb 2) rs .front } ∷ cut (eqb 2) rs .sections }
+          | false ↦ record { front = r ∷ cut (eqb 2) rs .front; sections = cut (eqb 2) rs .sections }
+        ] .sections)
+        ≡ elim b [ true ↦ blockOf (record { head = r; body = cut (eqb 2) rs .front }) ∷ map blockOf (cut (eqb 2) rs .sections) | false ↦ map blockOf (cut (eqb 2) rs .sections) ]
+    go true = refl
+    go false = refl

@@ -6,7 +6,8 @@ use mathlib.Core.List.{List, [], _∷_, _++_, map, append-nil, append-assoc}
 use lib.Dec.{T, eqb}
 use Rattle.rules.specs.Lists.{all, concatMap}
 use Rattle.rules.specs.Tree.{Value, Edge, MapEntry, Instruction, Item, instruction, slotAddress, store, load, jump, Block, Function}
-use Rattle.rules.specs.Records.{Words, encode, kind, bit, isSafepoint, isTerminator, edgeArgument}
+use Rattle.rules.specs.Records.{encode, kind, bit, isSafepoint, isTerminator, edgeArgument}
+use Rattle.rules.specs.declared.Words.{Words}
 use Rattle.rules.specs.File.{Section, Cut, cut, ofKind, named, edgeOf, edgesOf, instructionOf, firstEdge, itemOf, opensItem, blockOf, function, edgeRecords, itemRecords, blockRecords, functionRecords}
 use Rattle.rules.specs.declared.EdgeArgument.{EdgeArgument}
 use Rattle.rules.specs.declared.EdgeArgument.the-variants as passes

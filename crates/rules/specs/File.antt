@@ -6,7 +6,8 @@ use lib.ListN.{getD}
 use lib.Dec.{leb, eqb}
 use Rattle.rules.specs.Lists.{concatMap, has}
 use Rattle.rules.specs.Tree.{Value, Edge, MapEntry, Instruction, Item, instruction, slotAddress, store, load, jump, Block, Function}
-use Rattle.rules.specs.Records.{Words, encode, kind, isSafepoint, isTerminator, edgeArgument, records}
+use Rattle.rules.specs.Records.{encode, kind, isSafepoint, isTerminator, edgeArgument, records}
+use Rattle.rules.specs.declared.Words.{Words}
 use Rattle.rules.specs.declared.EdgeArgument.{EdgeArgument}
 use Rattle.rules.specs.declared.Record.{Record}
 use Rattle.rules.specs.declared.Record.the-variants as record′

@@ -8,6 +8,7 @@ use Rattle.rules.specs.Limits.{recordBytes}
 use Rattle.rules.specs.Lists.{all, concatMap, has}
 use Rattle.rules.specs.declared.EdgeArgument.{EdgeArgument}
 use Rattle.rules.specs.declared.EdgeArgument.the-variants as passes
+use Rattle.rules.specs.declared.Words.{Words}
 use Rattle.rules.specs.declared.Record.{Record}
 use Rattle.rules.specs.declared.Record.the-variants as record′
 
@@ -20,12 +21,6 @@ abbrev pub bytesOfWord : ℕ → List ℕ
 bytesOfWord w = w % 256 ∷ w / 256 % 256 ∷ w / 65536 % 256 ∷ w / 16777216 % 256 ∷ []
 
 -- four words: a kind, and words 2, 3, 4
-pub record Words : Type 0 where
-  pub kind : ℕ
-  pub second : ℕ
-  pub third : ℕ
-  pub fourth : ℕ
-
 abbrev pub words : ℕ → ℕ → ℕ → ℕ → Words
 words k a b c = record { kind = k; second = a; third = b; fourth = c }
 

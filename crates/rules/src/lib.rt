@@ -54,6 +54,14 @@ pub enum Record {
     Outside,
 }
 
+// The four words of a record: its kind, and words 2, 3, 4.
+pub struct Words {
+    pub kind: u32,
+    pub second: u32,
+    pub third: u32,
+    pub fourth: u32,
+}
+
 // Whether a call is answered, and if not, why; `refusalNumber` of specs/Refusals.antt gives document 01's number.
 pub enum Verdict {
     Accepted,

@@ -2,7 +2,7 @@
 use Rattle.rules.specs.Records.{decode}
 use borrow.Author.Tests.{ne-eqb}
 use native.Mathlib.Omega.{arith}
-use mathlib.Core.Path.{_≡_, refl}
+use mathlib.Core.Path.{_≡_}
 use borrow.Author.Needs.{needs}
 use Rattle.records.proofs.decode_words.Statement.{statement}
 use Rattle.records.proofs.decode_words.Tie as tie

@@ -1,7 +1,6 @@
 -- `records::fits_value` meets its contract.
 use borrow.Author.Tests.{le-leb, lt-leb}
 use native.Mathlib.Omega.{arith}
-use mathlib.Core.Path.{_≡_}
 use Rattle.records.proofs.fits_value.Statement.{statement}
 use Rattle.records.proofs.fits_value.Tie as tie
 

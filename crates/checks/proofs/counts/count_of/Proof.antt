@@ -6,10 +6,9 @@ use Rattle.lists.specs.Counts.{bit-at-most}
 use Rattle.rules.specs.Records.{recordCount, firstWords, bit, wordAt}
 use Rattle.rules.specs.Lists.{count}
 use lib.Dec.{eqb}
-use lib.ListN.{length}
 use native.Mathlib.Omega.{arith}
-use mathlib.Core.Path.{_≡_, sym, ap, _∙_}
-use Prim.Native.Nat.{_≤_, _+_, _-_, _*_, suc}
+use mathlib.Core.Path.{_≡_, ap, _∙_}
+use Prim.Native.Nat.{_≤_, _+_, _-_}
 use Rattle.checks.proofs.counts.count_of.Statement.{statement}
 use Rattle.checks.proofs.counts.count_of.Tie as tie
 

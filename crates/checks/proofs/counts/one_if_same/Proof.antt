@@ -1,8 +1,6 @@
 -- `checks::counts::one_if_same` meets its contract.
 use borrow.Author.Needs.{needs}
 use borrow.Author.Tests.{eq-eqb, ne-eqb}
-use native.Mathlib.Omega.{arith}
-use mathlib.Core.Path.{_≡_}
 use Rattle.checks.proofs.counts.one_if_same.Statement.{statement}
 use Rattle.checks.proofs.counts.one_if_same.Tie as tie
 

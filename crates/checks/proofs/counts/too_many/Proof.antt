@@ -4,7 +4,6 @@ use Rattle.rules.specs.Lists.{count}
 use borrow.Author.Tests.{lt-ltb, le-ltb}
 use lib.Dec.{eqb}
 use native.Mathlib.Omega.{arith}
-use mathlib.Core.Path.{_≡_, sym}
 use borrow.Author.Needs.{needs}
 use Rattle.checks.proofs.counts.too_many.Statement.{statement}
 use Rattle.checks.proofs.counts.too_many.Tie as tie

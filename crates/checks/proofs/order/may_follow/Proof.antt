@@ -2,11 +2,11 @@
 use Rattle.checks.proofs.Table.{all-below}
 use Rattle.rules.specs.File.{follows, followers}
 use Rattle.rules.specs.Lists.{all, upFrom}
-use lib.Dec.{T, eqb, eqb→eq}
+use lib.Dec.{T, eqb}
 use lib.ListN.{getD}
 use mathlib.Core.List.{List, [], _∷_}
 use mathlib.Core.Bool.{Bool, true, false}
-use mathlib.Core.Path.{_≡_, sym}
+use mathlib.Core.Path.{_≡_}
 use Prim.Native.Nat.{ℕ, _/_, _%_, _^_}
 use borrow.Author.Needs.{needs}
 use Rattle.checks.proofs.order.may_follow.Statement.{statement}

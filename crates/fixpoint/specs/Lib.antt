@@ -1,0 +1,17 @@
+pub mod Sums
+pub mod Finding
+pub mod Growth
+pub mod Rule
+pub mod Steps
+pub mod Sound
+pub mod Edges
+pub mod Resumable
+pub mod Closed
+pub mod Ends
+pub mod Bound
+pub mod Least
+pub mod Answer
+pub mod Removal
+pub mod Counting
+pub mod MoveToTop
+pub mod TopAnswer

@@ -1,0 +1,13 @@
+pub mod Ghost
+pub mod Related
+pub mod Agreement
+pub mod Stepping
+pub mod Passing
+pub mod Blocks
+pub mod Simulation
+pub mod Less
+pub mod Laying
+pub mod Checking
+pub mod Domination
+pub mod Sharpness
+pub mod Samples
