@@ -10,7 +10,8 @@ use lib.Dec.{T, T-not, not-T, eqb, eqb→eq, leb, ltb, nltb→le}
 use Rattle.rules.specs.Limits.{recordBytes, largestBlocks, largestEdges, largestRecords, largestValues, largestInstructions}
 use Rattle.rules.specs.Lists.{count, has}
 use Rattle.rules.specs.Tree.{Edge}
-use Rattle.rules.specs.Records.{Words, wordAt, slotSizes, log2, encode, kind, edgeArgument, decode, recordAt, recordCount, eachFrom, records, firstWords}
+use Rattle.rules.specs.declared.Words.{Words}
+use Rattle.rules.specs.Records.{wordAt, slotSizes, log2, encode, kind, edgeArgument, decode, recordAt, recordCount, eachFrom, records, firstWords}
 use Rattle.rules.specs.File.{Section, cut, ofKind, blockOf, function, functionIn, ordered}
 use Rattle.rules.specs.Refusals.{tooMany, allEdges}
 use Rattle.rules.specs.declared.EdgeArgument.{EdgeArgument}

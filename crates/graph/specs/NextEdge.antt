@@ -5,7 +5,8 @@ use mathlib.Core.Bool.{Bool, true, false}
 use mathlib.Core.List.{List, [], _∷_, map}
 use native.Mathlib.Omega.{arith}
 use lib.Dec.{eqb}
-use Rattle.rules.specs.Records.{Words, encode, kind, recordAt, recordCount}
+use Rattle.rules.specs.declared.Words.{Words}
+use Rattle.rules.specs.Records.{encode, kind, recordAt, recordCount}
 use Rattle.rules.specs.File.{ofKind, named}
 use Rattle.rules.specs.declared.Record.{Record}
 use Rattle.graph.specs.declared.edges.NextEdge.{NextEdge}
