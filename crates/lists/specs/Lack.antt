@@ -18,7 +18,7 @@ unless true w = 0
 unless false w = w
 
 -- the weight of the numbers below n that are not in the set
-pub lack : (ℕ → ℕ) → ℕ → Set → ℕ
+unfoldable pub lack : (ℕ → ℕ) → ℕ → Set → ℕ
 lack w zero s = 0
 lack w (suc n) s = lack w n s + unless (s n) (w n)
 

@@ -1,0 +1,100 @@
+-- `graph::blocks::block_places` meets its contract.
+use borrow.Author.Needs.{needs}
+use Rattle.graph.specs.Zeros.{sets-padded}
+use Rattle.graph.proofs.Filling.{placesFrom, placesFrom-all, placesFrom-done, filled, filled-all, filled-done, filled-more, left-more}
+use Rattle.graph.specs.Blocks.{blockPlaces, blockTable, length-blockPlaces, length-blockTable}
+use Rattle.rules.specs.Records.{recordCount, recordAt, kind}
+use Rattle.graph.specs.Sections.{placeIf}
+use mathlib.Core.List.{[]}
+use lib.Dec.{eqb}
+use lib.Seq.{sets, length-sets}
+use lib.ListN.{length}
+use native.Mathlib.Omega.{arith}
+use mathlib.Core.Path.{_≡_, refl, sym, ap, _∙_}
+use Prim.Native.Nat.{_≤_, _+_, _-_}
+use Rattle.graph.proofs.blocks.block_places.Statement.{statement}
+use Rattle.graph.proofs.blocks.block_places.Tie as tie
+
+abbrev Inv-loop : tie.InvT-loop
+Inv-loop s places₀ n found₀ i₀ places found i =
+    (i ≤ recordCount s) × (length places ≡ length places₀) × (found + length (placesFrom s i) ≡ length (blockPlaces s))
+    × (filled s places found i ≡ sets places₀ 0 (blockTable s))
+
+abbrev μ-loop : tie.MeasureT-loop
+μ-loop s places₀ n found₀ i₀ places found i = recordCount s - i
+
+loop-holds : tie.Need-loop-holds Inv-loop μ-loop
+loop-holds c =
+    let start = c .before .before in
+    let s = start .args .s .now in (omega arith, refl, omega (arith, ap length (placesFrom-all s)), filled-all s (start .args .places .now))
+
+record-at-requires : tie.Need-record-at-requires Inv-loop μ-loop
+record-at-requires c κs = search needs
+
+kind-of-requires : tie.Need-kind-of-requires Inv-loop μ-loop
+kind-of-requires c κs = search needs
+
+note-requires : tie.Need-note-requires Inv-loop μ-loop
+note-requires c κs =
+    let start = c .before .before .before .before .before .before .before in
+    omega (arith, length-blockPlaces (start .args .s .now), start .pre .0)
+
+add-i : tie.Need-add-i Inv-loop μ-loop
+add-i c = search needs
+
+loop-less : tie.Need-loop-less Inv-loop μ-loop
+loop-less c = search needs
+
+loop-again : tie.Need-loop-again Inv-loop μ-loop
+loop-again c =
+    let start = c .before .before .before .before .before .before .before .before .before .before in
+    let loop = c .before .before .before .before .before .before .before .loop in
+    let kind-of = c .before .before .before .kind-of in
+    let note = c .before .before .note in
+    let s = start .args .s .now in
+    let k : kind-of .result ≡ kind (recordAt s (loop .i)) = cc in
+    let l = left-more s (loop .i) (kind-of .result) (search needs) k in
+    let f = filled-more s (loop .i) (kind-of .result) (search needs) k (loop .places) (loop .found) in (
+      search needs,
+      ap length (note .ensures .0) ∙ length-sets (loop .places) (loop .found) (placeIf (eqb (kind-of .result) 2) (loop .i) []) ∙ loop .inv .1,
+      omega (arith, note .ensures .1),
+      (λ t. filled s (note .ensures .0 t) (note .ensures .1 t) (loop .i + 1)) ∙ sym f ∙ loop .inv .3,
+    )
+
+mul-places : tie.Need-mul-places Inv-loop μ-loop
+mul-places c = omega (arith, length-blockPlaces (c .before .before .before .before .args .s .now), c .before .before .before .before .pre .0)
+
+slice-write-places : tie.Need-slice-write-places Inv-loop μ-loop
+slice-write-places c = omega (arith, length-blockPlaces (c .before .before .before .before .args .s .now), c .before .before .before .before .pre .0)
+
+same-length : tie.Need-same-length Inv-loop μ-loop
+same-length c = search needs
+
+returns : tie.Need-returns Inv-loop μ-loop
+returns c =
+    let start = c .before .before .before .before in
+    let s = start .args .s .now in
+    let e : c .before .loop .i ≡ recordCount s = omega arith in
+    let n = length-blockPlaces s in (
+      omega (arith, ap length (placesFrom-done s (c .before .loop .i) e)),
+      sym (filled-done s (c .before .loop .places) (c .before .loop .found) (c .before .loop .i) e) ∙ c .before .loop .inv .3
+          ∙ sets-padded (start .args .places .now) (blockTable s) (start .pre .1) (omega (arith, length-blockTable s, start .pre .0)),
+    )
+
+pub block-places-spec : {M : Type 1} → statement M
+block-places-spec =
+    tie.close
+    (tie.spec
+    Inv-loop
+    μ-loop
+    loop-holds
+    record-at-requires
+    kind-of-requires
+    note-requires
+    add-i
+    loop-less
+    loop-again
+    mul-places
+    slice-write-places
+    same-length
+    returns)
