@@ -1,4 +1,4 @@
-// Refusals 2 to 8: each test of document 01 as a function, and the lowest number that applies.
+// Refusals 3 to 7: each test of document 01 as a function.
 mod counts;
 mod definitions;
 mod fitting;

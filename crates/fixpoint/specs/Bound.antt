@@ -5,7 +5,7 @@ use native.Mathlib.Omega.{arith}
 use native.Mathlib.Nat.{mul-comm, mul-le-mul-left, mul-le-mul-right}
 use mathlib.Core.Bool.{false, not, _&&_}
 use lib.ListN.{length}
-use Rattle.rules.specs.Lists.{count, concatMap, upFrom, Set}
+use Rattle.rules.specs.Lists.{count, concatMap, upFrom, NumberSet}
 use Rattle.rules.specs.Tree.{Value, Function}
 use Rattle.rules.specs.Graph.{isMarked, successors, reachable}
 use Rattle.rules.specs.Liveness.{State, predecessors, after, bound}
@@ -25,7 +25,7 @@ module _ (f : Function) where
   edges = length (concatMap (successors f) (reachable f))
 
   -- no set lacks more than the marked values,
-  lacking-le : (live : Set) → lacking f live ≤ marks
+  lacking-le : (live : NumberSet) → lacking f live ≤ marks
   lacking-le live =
       let places = upFrom 0 (length (f .values)) in
       omega (

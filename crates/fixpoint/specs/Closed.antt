@@ -7,7 +7,7 @@ use mathlib.Core.Bool.{false, not}
 use mathlib.Core.List.{List, []}
 use lib.ListN.{length}
 use lib.Dec.{T, T-not, eqb, eqb→eq}
-use Rattle.rules.specs.Lists.{has, update, Set}
+use Rattle.rules.specs.Lists.{has, update, NumberSet}
 use Rattle.rules.specs.Tree.{Function}
 use Rattle.rules.specs.Graph.{successors, reachable}
 use Rattle.rules.specs.Liveness.{through, State, start, predecessors, joined, step, after}
@@ -58,7 +58,7 @@ module _ (f : Function) (s : State) (h : Resumable f s) (b : ℕ) (rest : List �
   quiet {x} m not-pushed v =
       any-mono (λ t. next .ins t v) (λ t. s .ins t v) (successors f x)
       (λ t edge.
-      update-elim (λ (r : Set). T (r v) → T (s .ins t v)) b (newIn f s b) (s .ins) t
+      update-elim (λ (r : NumberSet). T (r v) → T (s .ins t v)) b (newIn f s b) (s .ins) t
       (λ e live.
       let old : T (s .ins b v) = newIn-old (no-growth (subst (λ y. y ∈ successors f x) e edge)) v live in
       subst (λ y. T (s .ins y v)) (sym e) old)
@@ -77,10 +77,10 @@ module _ (f : Function) (s : State) (h : Resumable f s) (b : ℕ) (rest : List �
       let live : next .ins b ≡ newIn f s b = update-here b (newIn f s b) (s .ins) in
       record {
         outs-closed = λ v t.
-            subst (λ (r : Set). T (r v)) (sym out) (or-right (s .outs b v) (joined f (s .ins) b v) (q v t));
+            subst (λ (r : NumberSet). T (r v)) (sym out) (or-right (s .outs b v) (joined f (s .ins) b v) (q v t));
         ins-closed = λ v t.
-            subst (λ (r : Set). T (r v)) (sym live)
-            (or-right (s .ins b v) (through f b (newOut f s b) v) (subst (λ (r : Set). T (through f b r v)) out t));
+            subst (λ (r : NumberSet). T (r v)) (sym live)
+            (or-right (s .ins b v) (through f b (newOut f s b) v) (subst (λ (r : NumberSet). T (through f b r v)) out t));
       }
 
   -- and another that was closed is still
@@ -89,9 +89,9 @@ module _ (f : Function) (s : State) (h : Resumable f s) (b : ℕ) (rest : List �
       let out : next .outs x ≡ s .outs x = update-there b (newOut f s b) (s .outs) x other in
       let live : next .ins x ≡ s .ins x = update-there b (newIn f s b) (s .ins) x other in
       record {
-        outs-closed = λ v t. subst (λ (r : Set). T (r v)) (sym out) (c .outs-closed v (q v t));
+        outs-closed = λ v t. subst (λ (r : NumberSet). T (r v)) (sym out) (c .outs-closed v (q v t));
         ins-closed = λ v t.
-            subst (λ (r : Set). T (r v)) (sym live) (c .ins-closed v (subst (λ (r : Set). T (through f x r v)) out t));
+            subst (λ (r : NumberSet). T (r v)) (sym live) (c .ins-closed v (subst (λ (r : NumberSet). T (through f x r v)) out t));
       }
 
   -- So each reachable block is pending or closed then: it was pushed, or its successors were quiet.

@@ -4,7 +4,7 @@ use mathlib.Core.Path.{_≡_, refl, sym, ap, subst, _∙_}
 use mathlib.Core.Bool.{Bool, true, false, not, cond}
 use mathlib.Core.List.{List, [], _∷_, List·Nodup, nodup-nil, nodup-cons}
 use lib.Dec.{T, T-not, eqb, eqb→eq}
-use Rattle.rules.specs.Lists.{has, update, Set}
+use Rattle.rules.specs.Lists.{has, update, NumberSet}
 use Rattle.rules.specs.Liveness.{popped}
 use Rattle.lists.specs.Tests.{test-elim, if-elim, chosen}
 use Rattle.lists.specs.Members.{_∈_, here, there, not-∈-nil, ∈-elim, ∈→has}
@@ -14,13 +14,13 @@ use Rattle.fixpoint.specs.Removal.{remove-absent, nodup-moveToTop}
 use Rattle.fixpoint.specs.Steps.{popped-counts}
 
 -- the entries that count, each where it stands first
-pub counting : Set → List ℕ → List ℕ
+pub counting : NumberSet → List ℕ → List ℕ
 counting pending [] = []
 counting pending (b ∷ stack) =
     elim (pending b) [ true ↦ moveToTop b (counting pending stack) | false ↦ counting pending stack ]
 
 -- no block is there twice
-pub counting-nodup : (pending : Set) (stack : List ℕ) → List·Nodup (counting pending stack)
+pub counting-nodup : (pending : NumberSet) (stack : List ℕ) → List·Nodup (counting pending stack)
 unfolding counting
 counting-nodup pending [] = nodup-nil
 counting-nodup pending (b ∷ stack) =
@@ -30,7 +30,7 @@ counting-nodup pending (b ∷ stack) =
     (λ _. rest)
 
 -- every entry counts
-pub counting-pending : (pending : Set) {x : ℕ} (stack : List ℕ) → x ∈ counting pending stack → T (pending x)
+pub counting-pending : (pending : NumberSet) {x : ℕ} (stack : List ℕ) → x ∈ counting pending stack → T (pending x)
 unfolding counting
 counting-pending pending [] m = absurd (not-∈-nil m)
 counting-pending pending {x} (b ∷ stack) m =
@@ -43,7 +43,7 @@ counting-pending pending {x} (b ∷ stack) m =
     m
 
 -- and what counts is there
-pub ∈-counting : (pending : Set) {x : ℕ} {stack : List ℕ} → T (pending x) → x ∈ stack → x ∈ counting pending stack
+pub ∈-counting : (pending : NumberSet) {x : ℕ} {stack : List ℕ} → T (pending x) → x ∈ stack → x ∈ counting pending stack
 unfolding counting
 ∈-counting pending {x} t (here {x = b} {xs = stack} e) =
     if-elim (λ (r : List ℕ). x ∈ r) (pending b) (moveToTop b (counting pending stack)) (counting pending stack)
@@ -59,7 +59,7 @@ unfolding counting
 
 -- a block that is no longer pending is taken out
 counting-off :
-    (pending : Set) (b : ℕ) (stack : List ℕ)
+    (pending : NumberSet) (b : ℕ) (stack : List ℕ)
     → counting (update b false pending) stack ≡ remove b (counting pending stack)
 unfolding counting
 counting-off pending b [] = refl
@@ -90,7 +90,7 @@ counting-off pending b (x ∷ stack) =
 
 -- an entry that counts stands on top
 counting-top :
-    (pending : Set) (b : ℕ) (stack : List ℕ) → T (pending b)
+    (pending : NumberSet) (b : ℕ) (stack : List ℕ) → T (pending b)
     → counting pending (b ∷ stack) ≡ moveToTop b (counting pending stack)
 unfolding counting
 counting-top pending b stack t =
@@ -102,7 +102,7 @@ off-on false p = refl
 
 -- a block that is pushed is moved to the top
 pub counting-on :
-    (pending : Set) (b : ℕ) (stack : List ℕ)
+    (pending : NumberSet) (b : ℕ) (stack : List ℕ)
     → counting (update b true pending) (b ∷ stack) ≡ moveToTop b (counting pending stack)
 unfolding counting
 counting-on pending b stack =
@@ -114,7 +114,7 @@ counting-on pending b stack =
     ∙ counting-off pending b stack)
 
 -- entries above the topmost one that counts do not
-counting-popped : (pending : Set) (stack : List ℕ) → counting pending (popped pending stack) ≡ counting pending stack
+counting-popped : (pending : NumberSet) (stack : List ℕ) → counting pending (popped pending stack) ≡ counting pending stack
 unfolding counting
 counting-popped pending [] = refl
 counting-popped pending (b ∷ stack) = go (pending b) refl (counting-popped pending stack)
@@ -128,7 +128,7 @@ counting-popped pending (b ∷ stack) = go (pending b) refl (counting-popped pen
 
 -- a list without repetitions, all of it pending, is what counts of itself
 counting-where :
-    (pending : Set) (l : List ℕ) → List·Nodup l → ((x : ℕ) → x ∈ l → T (pending x)) → counting pending l ≡ l
+    (pending : NumberSet) (l : List ℕ) → List·Nodup l → ((x : ℕ) → x ∈ l → T (pending x)) → counting pending l ≡ l
 unfolding counting
 counting-where pending [] d h = refl
 counting-where pending (b ∷ l) d h =
@@ -142,13 +142,13 @@ pub counting-all : (l : List ℕ) → List·Nodup l → counting (λ x. has x l)
 counting-all l d = counting-where (λ x. has x l) l d (λ x m. ∈→has m)
 
 -- where no entry counts, none is left
-pub counting-none : (pending : Set) (stack : List ℕ) → popped pending stack ≡ [] → counting pending stack ≡ []
+pub counting-none : (pending : NumberSet) (stack : List ℕ) → popped pending stack ≡ [] → counting pending stack ≡ []
 unfolding counting
 counting-none pending stack e = sym (counting-popped pending stack) ∙ ap (counting pending) e
 
 -- the topmost one that counts stands on top, and below it is what counts without it
 pub counting-some :
-    (pending : Set) (stack : List ℕ) {b : ℕ} {rest : List ℕ} → popped pending stack ≡ b ∷ rest
+    (pending : NumberSet) (stack : List ℕ) {b : ℕ} {rest : List ℕ} → popped pending stack ≡ b ∷ rest
     → counting pending stack ≡ b ∷ counting (update b false pending) rest
 counting-some pending stack {b} {rest} e =
     sym (counting-popped pending stack)

@@ -10,7 +10,7 @@ use mathlib.Core.Bool.{false, not, _&&_}
 use mathlib.Core.List.{List, [], _∷_}
 use lib.ListN.{length}
 use lib.Dec.{T, T-not, not-T}
-use Rattle.rules.specs.Lists.{count, update, upFrom, Set, grew}
+use Rattle.rules.specs.Lists.{count, update, upFrom, NumberSet, grew}
 use Rattle.rules.specs.Tree.{Function}
 use Rattle.rules.specs.Graph.{isMarked, reachable}
 use Rattle.rules.specs.Liveness.{through, State, predecessors, popped, step, after}
@@ -27,7 +27,7 @@ use Rattle.fixpoint.specs.Resumable.{Resumable, still-pending, through-n
 use Rattle.fixpoint.specs.Resumable.{idle-nothing}
 
 -- how many marked values a set lacks
-abbrev pub lacking : Function → Set → ℕ
+abbrev pub lacking : Function → NumberSet → ℕ
 lacking f live = count (λ v. isMarked f v && not (live v)) (upFrom 0 (length (f .values)))
 
 -- what is still to be pushed at most: for each reachable block, edges in × marked values not yet live in
@@ -44,18 +44,18 @@ work f s = waiting f s + potential f s
 
 module _ (f : Function) where
   -- what a larger set lacks, a smaller one lacks
-  lacks-mono : (s t : Set) → Within s t → (v : ℕ) → T (isMarked f v && not (t v)) → T (isMarked f v && not (s v))
+  lacks-mono : (s t : NumberSet) → Within s t → (v : ℕ) → T (isMarked f v && not (t v)) → T (isMarked f v && not (s v))
   lacks-mono s t h v l =
       and-intro (isMarked f v) (not (s v)) (and-left (isMarked f v) (not (t v)) l)
       (not-T (s v) (λ k. T-not (t v) (and-right (isMarked f v) (not (t v)) l) (h v k)))
 
   -- a larger set lacks no more,
-  lacking-mono : (s t : Set) → Within s t → lacking f t ≤ lacking f s
+  lacking-mono : (s t : NumberSet) → Within s t → lacking f t ≤ lacking f s
   lacking-mono s t h = count-mono _ _ (upFrom 0 (length (f .values))) (λ v _. lacks-mono s t h v)
 
   -- and less, if it has a marked value that is new.
   lacking-grew :
-      (s new t : Set) → Within s t → Within new t → Within new (isMarked f) → T (grew (length (f .values)) s new)
+      (s new t : NumberSet) → Within s t → Within new t → Within new (isMarked f) → T (grew (length (f .values)) s new)
       → lacking f t + 1 ≤ lacking f s
   lacking-grew s new t old added marked g =
       let r = grew-elim (length (f .values)) s new g in
@@ -68,7 +68,7 @@ module _ (f : Function) where
     -- a visit takes nothing out of a live-in set
     ins-grow : (x : ℕ) → Within (s .ins x) (afterVisit f s b rest .ins x)
     ins-grow x v =
-        update-elim (λ (r : Set). T (s .ins x v) → T (r v)) b (newIn f s b) (s .ins) x
+        update-elim (λ (r : NumberSet). T (s .ins x v) → T (r v)) b (newIn f s b) (s .ins) x
         (λ e t. or-left (s .ins b v) (through f b (newOut f s b) v) (subst (λ y. T (s .ins y v)) e t))
         (λ _ t. t)
 
@@ -104,11 +104,11 @@ module _ (f : Function) where
     pub visit-potential : b ∈ reachable f → potential f (afterVisit f s b rest) + length (pushed f s b) ≤ potential f s
     visit-potential m =
         let into : ℕ → ℕ = λ x. length (predecessors f x) in
-        let next : ℕ → Set = afterVisit f s b rest .ins in
+        let next : ℕ → NumberSet = afterVisit f s b rest .ins in
         sum-drop (λ x. into x * lacking f (next x)) (λ x. into x * lacking f (s .ins x)) (length (pushed f s b))
         (λ x. mul-le-mul-left (into x) (lacking-mono (s .ins x) (next x) (ins-grow s b rest x)))
         m
-        (subst (λ (r : Set). into b * lacking f r + length (pushed f s b) ≤ into b * lacking f (s .ins b))
+        (subst (λ (r : NumberSet). into b * lacking f r + length (pushed f s b) ≤ into b * lacking f (s .ins b))
         (sym (update-here b (newIn f s b) (s .ins)))
         visit-falls)
 

@@ -5,20 +5,20 @@ use mathlib.Core.Path.{_≡_}
 use mathlib.Core.Bool.{not, _&&_}
 use lib.ListN.{length}
 use lib.Dec.{T, T-not, ltb, ltb→lt, lt→ltb}
-use Rattle.rules.specs.Lists.{count, upFrom, Set, union, members, grew}
+use Rattle.rules.specs.Lists.{count, upFrom, NumberSet, union, members, grew}
 use Rattle.lists.specs.Tests.{test-elim, T-ext, and-intro, and-left, and-right, or-elim, or-left, or-right}
 use Rattle.lists.specs.Members.{_∈_}
 use Rattle.fixpoint.specs.Sums.{length-keep, count-mono, count-drop}
 use Rattle.fixpoint.specs.Finding.{any-intro, any-elim, ∈-upFrom, upFrom-below}
 
 -- A set grew by a number that shows it,
-pub grew-elim : (n : ℕ) (old new : Set) → T (grew n old new) → (v : ℕ) × (v ∈ upFrom 0 n) × T (new v) × T (not (old v))
+pub grew-elim : (n : ℕ) (old new : NumberSet) → T (grew n old new) → (v : ℕ) × (v ∈ upFrom 0 n) × T (new v) × T (not (old v))
 grew-elim n old new g =
     let r = any-elim (λ v. new v && not (old v)) (upFrom 0 n) g in
     (r .0, r .1, and-left (new (r .0)) (not (old (r .0))) (r .2), and-right (new (r .0)) (not (old (r .0))) (r .2))
 
 -- and where it did not grow, it had all that is new.
-pub not-grew : (n : ℕ) (old new : Set) → T (not (grew n old new)) → (v : ℕ) → v < n → T (new v) → T (old v)
+pub not-grew : (n : ℕ) (old new : NumberSet) → T (not (grew n old new)) → (v : ℕ) → v < n → T (new v) → T (old v)
 not-grew n old new g v l t =
     test-elim (old v) (λ h. h)
     (λ h.
@@ -28,7 +28,7 @@ not-grew n old new g v l t =
 
 -- So a set grew if and only if it has more members with what is new than without.
 pub grew-members :
-    (n : ℕ) (old new : Set) → grew n old new ≡ ltb (length (members n old)) (length (members n (union old new)))
+    (n : ℕ) (old new : NumberSet) → grew n old new ≡ ltb (length (members n old)) (length (members n (union old new)))
 grew-members n old new =
     T-ext (grew n old new) (ltb (length (members n old)) (length (members n both)))
     (λ g.
@@ -39,7 +39,7 @@ grew-members n old new =
     (omega (arith, length-keep old (upFrom 0 n), length-keep both (upFrom 0 n))))
     (λ less. test-elim (grew n old new) (λ g. g) (λ g. absurd (none less g)))
   where
-    both : Set
+    both : NumberSet
     both = union old new
 
     none : T (ltb (length (members n old)) (length (members n both))) → T (not (grew n old new)) → ⊥

@@ -5,7 +5,7 @@ use mathlib.Core.Path.{sym, subst}
 use mathlib.Core.Logic.{_⊎_, inl, inr}
 use mathlib.Core.Bool.{not, _&&_}
 use lib.Dec.{T, eqb, eqb→eq, eqb-refl}
-use Rattle.rules.specs.Lists.{Set, nothing}
+use Rattle.rules.specs.Lists.{NumberSet, nothing}
 use Rattle.rules.specs.Tree.{Function}
 use Rattle.rules.specs.Graph.{isMarked, successors, reachable}
 use Rattle.rules.specs.Liveness.{through, LiveOut, LiveIn, successor, rule, State}
@@ -24,7 +24,7 @@ module _ {f : Function} {b v : ℕ} where
   -- and what is live out of it and not defined in it.
   pub live-in-passed : LiveOut f b v → T (not (kills f b v)) → LiveIn f b v
   live-in-passed live n =
-      let one : Set = λ w. eqb w v in
+      let one : NumberSet = λ w. eqb w v in
       rule one (λ w k. subst (LiveOut f b) (sym (eqb→eq w v k)) live)
       (subst T (sym (through-split f b one v))
       (or-right (uses f b v) (one v && not (kills f b v)) (and-intro (one v) (not (kills f b v)) (eqb-refl v) n)))
@@ -41,7 +41,7 @@ module _ {f : Function} {b v : ℕ} where
 module _ (f : Function) where
   -- what the rule gives from marked values is marked
   in-marked :
-      (b v : ℕ) (out : Set) → ((w : ℕ) → T (out w) → T (isMarked f w)) → T (through f b out v) → T (isMarked f v)
+      (b v : ℕ) (out : NumberSet) → ((w : ℕ) → T (out w) → T (isMarked f w)) → T (through f b out v) → T (isMarked f v)
   in-marked b v out marked t = through-marked f b out marked v t
 
   -- live out of a block
@@ -70,7 +70,7 @@ module _ (f : Function) (s : State) (closed : (b : ℕ) → b ∈ reachable f �
       closed b m .outs-closed v (any-intro (λ u. s .ins u v) edge (set (reachable-closed f m edge)))
 
   in-case :
-      (b v : ℕ) (out : Set) → ((w : ℕ) → T (out w) → b ∈ reachable f → T (s .outs b w)) → T (through f b out v)
+      (b v : ℕ) (out : NumberSet) → ((w : ℕ) → T (out w) → b ∈ reachable f → T (s .outs b w)) → T (through f b out v)
       → b ∈ reachable f → T (s .ins b v)
   in-case b v out set t m =
       closed b m .ins-closed v (through-mono f b out (s .outs b) (λ w k. set w k m) v t)

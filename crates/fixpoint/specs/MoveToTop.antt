@@ -7,7 +7,7 @@ use mathlib.Core.Path.{_≡_, refl, sym, ap, _∙_}
 use mathlib.Core.Bool.{Bool, true, false}
 use mathlib.Core.List.{List, [], _∷_, List·Nodup}
 use lib.ListN.{length}
-use Rattle.rules.specs.Lists.{foldl, has, update, Set, nothing, union, grew}
+use Rattle.rules.specs.Lists.{foldl, has, update, NumberSet, nothing, union, grew}
 use Rattle.rules.specs.Tree.{Function}
 use Rattle.rules.specs.Graph.{isMarked, reachable}
 use Rattle.rules.specs.Liveness.{through, State, push, start, predecessors, joined, visit, popped, visitTop, step}
@@ -24,8 +24,8 @@ use Rattle.fixpoint.specs.Ends.{work, after-ends}
 
 -- THE PROCESS over such a stack
 pub record Compact : Type 0 where
-  pub ins : ℕ → Set
-  pub outs : ℕ → Set
+  pub ins : ℕ → NumberSet
+  pub outs : ℕ → NumberSet
   pub entries : List ℕ  -- top first, no block twice
   pub visited : List ℕ
   pub pushes : ℕ
@@ -125,10 +125,10 @@ compact-visit :
     → compact (visit f s b rest) ≡ visitOf f (compact s) b (counting (update b false (s .pending)) rest)
 compact-visit f s b rest = go (grew (length (f .values)) (s .ins b) new)
   where
-    out : Set
+    out : NumberSet
     out = union (s .outs b) (joined f (s .ins) b)
 
-    new : Set
+    new : NumberSet
     new = through f b out
 
     left : State

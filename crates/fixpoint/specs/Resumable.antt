@@ -6,7 +6,7 @@ use mathlib.Core.Path.{_≡_, refl, sym, subst, _∙_}
 use mathlib.Core.Bool.{Bool, false, not}
 use mathlib.Core.List.{List, [], _∷_}
 use lib.Dec.{T, T-not, not-T, eqb, eqb→eq}
-use Rattle.rules.specs.Lists.{has, update, Set}
+use Rattle.rules.specs.Lists.{has, update, NumberSet}
 use Rattle.rules.specs.Tree.{Function}
 use Rattle.rules.specs.Graph.{isMarked, reachable}
 use Rattle.rules.specs.Liveness.{through, State, start, predecessors, joined, popped, step, after}
@@ -27,7 +27,7 @@ pub record Resumable (f : Function) (s : State) : Type 0 where
   pub pending-stacked : (b : ℕ) → T (s .pending b) → b ∈ s .stack
 
 -- a block that is still pending when b is not, is another and was pending
-pub still-pending : (pending : Set) (b x : ℕ) → T (update b false pending x) → T (not (eqb x b)) × T (pending x)
+pub still-pending : (pending : NumberSet) (b x : ℕ) → T (update b false pending x) → T (not (eqb x b)) × T (pending x)
 still-pending pending b x =
     update-elim (λ (r : Bool). T r → T (not (eqb x b)) × T (pending x)) b false pending x (λ _ t. absurd t)
     (λ other t. (other, t))
@@ -61,10 +61,10 @@ module _ (f : Function) where
     visit-resumable b rest e =
         record {
           ins-marked = λ x v.
-              update-elim (λ (r : Set). T (r v) → T (isMarked f v)) b (newIn f s b) (s .ins) x (λ _. newIn-marked b v)
+              update-elim (λ (r : NumberSet). T (r v) → T (isMarked f v)) b (newIn f s b) (s .ins) x (λ _. newIn-marked b v)
               (λ _. h .ins-marked x v);
           outs-marked = λ x v.
-              update-elim (λ (r : Set). T (r v) → T (isMarked f v)) b (newOut f s b) (s .outs) x
+              update-elim (λ (r : NumberSet). T (r v) → T (isMarked f v)) b (newOut f s b) (s .outs) x
               (λ _. newOut-marked b v)
               (λ _. h .outs-marked x v);
           pending-reachable = λ x.

@@ -7,7 +7,7 @@ use mathlib.Core.Bool.{Bool, true, false, not, _&&_, _||_}
 use mathlib.Core.List.{List, [], _∷_, _++_}
 use lib.ListN.{length, List·getD-eq-default}
 use lib.Dec.{T, ltb, ltb→lt, nltb→le}
-use Rattle.rules.specs.Lists.{any, keep, has, Set, nothing, adding, removing}
+use Rattle.rules.specs.Lists.{any, keep, has, NumberSet, nothing, adding, removing}
 use Rattle.rules.specs.Tree.{Value, Instruction, Function}
 use Rattle.rules.specs.Graph.{blockAt, isMarked, instructionsOf, valuesPassed, successors}
 use Rattle.rules.specs.Liveness.{across, before, beforeAll, through, joined}
@@ -17,20 +17,20 @@ use Rattle.lists.specs.Members.{has→∈}
 use Rattle.fixpoint.specs.Finding.{any-elim, keep-passes}
 
 -- what a block uses before it defines it: what the rule gives from nothing
-abbrev pub uses : Function → ℕ → Set
+abbrev pub uses : Function → ℕ → NumberSet
 uses f b = through f b nothing
 
 -- what some instruction defines
-abbrev pub results : List Instruction → Set
+abbrev pub results : List Instruction → NumberSet
 results is v = any (λ i. has v (i .results)) is
 
 -- what a block defines, by parameter or result
-abbrev pub kills : Function → ℕ → Set
+abbrev pub kills : Function → ℕ → NumberSet
 kills f b v = has v (blockAt f b .parameters) || results (instructionsOf (blockAt f b)) v
 
 -- the rule takes the instructions behind first, and those before them from there
 pub beforeAll-append :
-    (f : Function) (is js : List Instruction) (out : Set)
+    (f : Function) (is js : List Instruction) (out : NumberSet)
     → beforeAll f (is ++ js) out ≡ beforeAll f is (beforeAll f js out)
 beforeAll-append f [] js out = refl
 beforeAll-append f (i ∷ is) js out = ap (before f i) (beforeAll-append f is js out)
@@ -52,7 +52,7 @@ split-end false = refl
 
 -- so before a list of instructions: what it uses before it defines it, and what comes from its end undefined
 pub beforeAll-split :
-    (f : Function) (is : List Instruction) (out : Set) (v : ℕ)
+    (f : Function) (is : List Instruction) (out : NumberSet) (v : ℕ)
     → beforeAll f is out v ≡ beforeAll f is nothing v || (out v && not (results is v))
 beforeAll-split f [] out v = split-end (out v)
 beforeAll-split f (i ∷ is) out v =
@@ -72,7 +72,7 @@ pub uses-append :
     → beforeAll f (is ++ js) nothing v
     ≡ beforeAll f is nothing v || (beforeAll f js nothing v && not (results is v))
 uses-append f is js v =
-    ap (λ (s : Set). s v) (beforeAll-append f is js nothing) ∙ beforeAll-split f is (beforeAll f js nothing) v
+    ap (λ (s : NumberSet). s v) (beforeAll-append f is js nothing) ∙ beforeAll-split f is (beforeAll f js nothing) v
 
 -- What they define: what one of them defines.
 pub results-append : (is js : List Instruction) (v : ℕ) → results (is ++ js) v ≡ results is v || results js v
@@ -83,7 +83,7 @@ results-append (i ∷ is) js v =
 
 -- THE RULE SPLITS: live in is what is used, and of what is live out what is not killed.
 pub through-split :
-    (f : Function) (b : ℕ) (out : Set) (v : ℕ) → through f b out v ≡ uses f b v || (out v && not (kills f b v))
+    (f : Function) (b : ℕ) (out : NumberSet) (v : ℕ) → through f b out v ≡ uses f b v || (out v && not (kills f b v))
 through-split f b out v =
     let is = instructionsOf (blockAt f b) in
     let removed = has v (blockAt f b .parameters) in
@@ -92,12 +92,12 @@ through-split f b out v =
 
 -- A value's answer depends on that value's alone.
 pub through-cong :
-    (f : Function) (b : ℕ) (s t : Set) (v : ℕ) → s v ≡ t v → through f b s v ≡ through f b t v
+    (f : Function) (b : ℕ) (s t : NumberSet) (v : ℕ) → s v ≡ t v → through f b s v ≡ through f b t v
 through-cong f b s t v e =
     through-split f b s v ∙ ap (λ o. uses f b v || (o && not (kills f b v))) e ∙ sym (through-split f b t v)
 
 -- Larger sets give larger ones.
-pub through-mono : (f : Function) (b : ℕ) (s t : Set) → Within s t → Within (through f b s) (through f b t)
+pub through-mono : (f : Function) (b : ℕ) (s t : NumberSet) → Within s t → Within (through f b s) (through f b t)
 through-mono f b s t h v live =
     let used = uses f b v in
     let stays = not (kills f b v) in
@@ -109,18 +109,18 @@ through-mono f b s t h v live =
 
 -- what is added of a list's marked values is marked
 adding-marked :
-    (f : Function) (l : List ℕ) (s : Set) → Within s (isMarked f)
+    (f : Function) (l : List ℕ) (s : NumberSet) → Within s (isMarked f)
     → Within (adding (keep (isMarked f) l) s) (isMarked f)
 adding-marked f l s h v =
     or-elim (has v (keep (isMarked f) l)) (s v) (λ t. keep-passes (isMarked f) l (has→∈ (keep (isMarked f) l) t)) (h v)
 
 -- what is left of a set is within what the set is
-removing-within : (l : List ℕ) (s t : Set) → Within s t → Within (removing l s) t
+removing-within : (l : List ℕ) (s t : NumberSet) → Within s t → Within (removing l s) t
 removing-within l s t h v k = h v (and-right (not (has v l)) (s v) k)
 
 -- so before a list of instructions all is marked
 beforeAll-marked :
-    (f : Function) (is : List Instruction) (out : Set) → Within out (isMarked f)
+    (f : Function) (is : List Instruction) (out : NumberSet) → Within out (isMarked f)
     → Within (beforeAll f is out) (isMarked f)
 beforeAll-marked f [] out h = h
 beforeAll-marked f (i ∷ is) out h =
@@ -130,7 +130,7 @@ beforeAll-marked f (i ∷ is) out h =
 
 -- From marked values the rule gives marked values.
 pub through-marked :
-    (f : Function) (b : ℕ) (out : Set) → Within out (isMarked f) → Within (through f b out) (isMarked f)
+    (f : Function) (b : ℕ) (out : NumberSet) → Within out (isMarked f) → Within (through f b out) (isMarked f)
 through-marked f b out h =
     removing-within (blockAt f b .parameters) (beforeAll f (instructionsOf (blockAt f b)) out) (isMarked f)
     (beforeAll-marked f (instructionsOf (blockAt f b)) out h)
@@ -146,11 +146,11 @@ marked-in-file f v h =
 
 -- So what the rule gives from marked values are values of the file.
 pub through-in-file :
-    (f : Function) (b : ℕ) (out : Set) → Within out (isMarked f) → (v : ℕ) → T (through f b out v)
+    (f : Function) (b : ℕ) (out : NumberSet) → Within out (isMarked f) → (v : ℕ) → T (through f b out v)
     → v < length (f .values)
 through-in-file f b out h v t = marked-in-file f v (through-marked f b out h v t)
 
 -- What is live into some successor now is in every set that each successor's live-in is in.
 pub joined-within :
-    (f : Function) (ins : ℕ → Set) (s : Set) → ((t : ℕ) → Within (ins t) s) → (b : ℕ) → Within (joined f ins b) s
+    (f : Function) (ins : ℕ → NumberSet) (s : NumberSet) → ((t : ℕ) → Within (ins t) s) → (b : ℕ) → Within (joined f ins b) s
 joined-within f ins s h b v live = let r = any-elim (λ t. ins t v) (successors f b) live in h (r .0) v (r .2)

@@ -4,7 +4,7 @@ use Prim.Native.Nat.{ℕ}
 use mathlib.Core.Path.{sym, subst}
 use mathlib.Core.List.{List}
 use lib.Dec.{T}
-use Rattle.rules.specs.Lists.{Set}
+use Rattle.rules.specs.Lists.{NumberSet}
 use Rattle.rules.specs.Tree.{Function}
 use Rattle.rules.specs.Graph.{successors}
 use Rattle.rules.specs.Liveness.{through, LiveOut, LiveIn, successor, rule, State, joined, start, step, after}
@@ -35,11 +35,11 @@ module _ (f : Function) where
   visit-sound s h b rest =
       record {
         ins-live = λ x v.
-            update-elim (λ (r : Set). T (r v) → LiveIn f x v) b (newIn f s b) (s .ins) x
+            update-elim (λ (r : NumberSet). T (r v) → LiveIn f x v) b (newIn f s b) (s .ins) x
             (λ e t. subst (λ y. LiveIn f y v) (sym e) (newIn-live s h b v t))
             (λ _. h .ins-live x v);
         outs-live = λ x v.
-            update-elim (λ (r : Set). T (r v) → LiveOut f x v) b (newOut f s b) (s .outs) x
+            update-elim (λ (r : NumberSet). T (r v) → LiveOut f x v) b (newOut f s b) (s .outs) x
             (λ e t. subst (λ y. LiveOut f y v) (sym e) (newOut-live s h b v t))
             (λ _. h .outs-live x v);
       }

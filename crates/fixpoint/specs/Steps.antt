@@ -8,7 +8,7 @@ use mathlib.Core.Logic.{_⊎_, inl, inr, ⊎-elim}
 use mathlib.Core.List.{List, [], _∷_, reverse, reverseAux, reverse-reverse, nil≢cons, head-eq-of-cons-eq}
 use lib.ListN.{length, length-reverse}
 use lib.Dec.{T, T-not, eqb}
-use Rattle.rules.specs.Lists.{foldl, has, update, Set, nothing, union, adding, grew}
+use Rattle.rules.specs.Lists.{foldl, has, update, NumberSet, nothing, union, adding, grew}
 use Rattle.rules.specs.Tree.{Function}
 use Rattle.rules.specs.Graph.{reachable}
 use Rattle.rules.specs.Liveness.{through, State, push, start, predecessors, joined, visit, popped, visitTop, step}
@@ -75,11 +75,11 @@ start-first f =
     (omega (arith, length-reverse (reachable f)))
 
 -- live-out of b as a visit leaves it
-abbrev pub newOut : Function → State → ℕ → Set
+abbrev pub newOut : Function → State → ℕ → NumberSet
 newOut f s b = union (s .outs b) (joined f (s .ins) b)
 
 -- live-in of b as a visit leaves it
-abbrev pub newIn : Function → State → ℕ → Set
+abbrev pub newIn : Function → State → ℕ → NumberSet
 newIn f s b = union (s .ins b) (through f b (newOut f s b))
 
 -- a visit of b makes its live-in grow
@@ -128,7 +128,7 @@ visit-leaves f s b rest = go (grows f s b)
 abbrev pub Idle : State → Type 0
 Idle s = popped (s .pending) (s .stack) ≡ []
 
-module _ (pending : Set) where
+module _ (pending : NumberSet) where
   -- the entry on top counts
   pub popped-counts : {b : ℕ} {rest : List ℕ} (stack : List ℕ) → popped pending stack ≡ b ∷ rest → T (pending b)
   popped-counts [] e = absurd (nil≢cons e)

@@ -7,7 +7,7 @@ use mathlib.Core.Bool.{Bool, true, false, not, _||_}
 use mathlib.Core.List.{List, [], _∷_, List·Nodup, nodup-cons}
 use lib.ListN.{length, getD, length-append}
 use lib.Dec.{T, not-T, eqb, eqb→eq}
-use Rattle.rules.specs.Lists.{concatMap, count, keep, has, upFrom, Set, adding}
+use Rattle.rules.specs.Lists.{concatMap, count, keep, has, upFrom, NumberSet, adding}
 use Rattle.rules.specs.Records.{bit}
 use Rattle.lists.specs.Tests.{test-elim}
 use Rattle.lists.specs.Members.{_∈_, here, there}
@@ -169,7 +169,7 @@ sum-count-le bs d l =
     omega (arith, sum-le-length (λ y. sum (λ b. bit (eqb b y)) bs) once l)
 
 -- Of numbers without repetitions, no more come into a set than are added.
-pub count-adding : (ps : List ℕ) (s : Set) (l : List ℕ) → List·Nodup l → count (adding ps s) l ≤ length ps + count s l
+pub count-adding : (ps : List ℕ) (s : NumberSet) (l : List ℕ) → List·Nodup l → count (adding ps s) l ≤ length ps + count s l
 count-adding [] s l d = omega arith
 count-adding (p ∷ ps) s l d =
     let step : sum (λ x. bit (adding (p ∷ ps) s x)) l ≤ sum (λ x. bit (eqb x p) + bit (adding ps s x)) l =

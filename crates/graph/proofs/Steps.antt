@@ -7,7 +7,7 @@ use native.Mathlib.Omega.{arith}
 use native.Mathlib.Numerals.{add-one}
 use lib.ListN.{length, getD, set, length-set}
 use lib.Seq.{getD-set-same, getD-set-other}
-use Rattle.rules.specs.Lists.{Set}
+use Rattle.rules.specs.Lists.{NumberSet}
 use Rattle.rules.specs.Tree.{Function}
 use Rattle.rules.specs.File.{named}
 use Rattle.rules.specs.Graph.{successors}
@@ -18,7 +18,7 @@ use Rattle.graph.specs.Tables.{Tables, tables, down, frameOf, frameAt, s
 use Rattle.graph.proofs.Marks.{down-same, done-more, mark-set, mark-kept}
 
 machine-eq :
-    {stack stack′ : List Frame} {entered entered′ : Set} {done done′ : List ℕ}
+    {stack stack′ : List Frame} {entered entered′ : NumberSet} {done done′ : List ℕ}
     → stack ≡ stack′ → ((x : ℕ) → entered x ≡ entered′ x) → done ≡ done′
     → _≡_ {A = Machine} (record { stack = stack; stage = record { entered = entered; done = done } })
     (record { stack = stack′; stage = record { entered = entered′; done = done′ } })

@@ -7,7 +7,7 @@ use mathlib.Core.Bool.{Bool, true, false, not}
 use mathlib.Core.List.{List, [], _∷_, List·Nodup, nodup-cons}
 use lib.ListN.{length}
 use lib.Dec.{T, not-T, eqb, eqb→eq}
-use Rattle.rules.specs.Lists.{has, Set, nothing}
+use Rattle.rules.specs.Lists.{has, NumberSet, nothing}
 use Rattle.lists.specs.Tests.{test-elim, neqb→ne}
 use Rattle.lists.specs.Sets.{Within, insert, insert-here, insert-there}
 use Rattle.lists.specs.Members.{_∈_, here, there, has→∈}
@@ -18,7 +18,7 @@ unless true w = 0
 unless false w = w
 
 -- the weight of the numbers below n that are not in the set
-unfoldable pub lack : (ℕ → ℕ) → ℕ → Set → ℕ
+unfoldable pub lack : (ℕ → ℕ) → ℕ → NumberSet → ℕ
 lack w zero s = 0
 lack w (suc n) s = lack w n s + unless (s n) (w n)
 
@@ -42,14 +42,14 @@ unless-no w false h = refl
 
 module _ (w : ℕ → ℕ) where
   -- a larger set lacks no more
-  pub lack-mono : (n : ℕ) (s t : Set) → Within s t → lack w n t ≤ lack w n s
+  pub lack-mono : (n : ℕ) (s t : NumberSet) → Within s t → lack w n t ≤ lack w n s
   unfolding lack
   lack-mono zero s t h = omega arith
   lack-mono (suc n) s t h = omega (arith, lack-mono n s t h, unless-mono (w n) (s n) (t n) (h n))
 
   -- a larger set with a number that the smaller one lacks, lacks less by that number's weight
   pub lack-drop :
-      (n : ℕ) (s t : Set) (b : ℕ) → Within s t → b < n → T (not (s b)) → T (t b) → lack w n t + w b ≤ lack w n s
+      (n : ℕ) (s t : NumberSet) (b : ℕ) → Within s t → b < n → T (not (s b)) → T (t b) → lack w n t + w b ≤ lack w n s
   unfolding lack
   lack-drop zero s t b h l out into = absurd (omega arith)
   lack-drop (suc n) s t b h l out into =
@@ -64,11 +64,11 @@ module _ (w : ℕ → ℕ) where
       omega (arith, lack-drop n s t b h less out into, unless-mono (w n) (s n) (t n) (h n)))
 
   -- so does a set with one number more
-  pub lack-insert : (n : ℕ) (s : Set) (b : ℕ) → b < n → T (not (s b)) → lack w n (insert b s) + w b ≤ lack w n s
+  pub lack-insert : (n : ℕ) (s : NumberSet) (b : ℕ) → b < n → T (not (s b)) → lack w n (insert b s) + w b ≤ lack w n s
   lack-insert n s b l out = lack-drop n s (insert b s) b (insert-there b s) l out (insert-here b s refl)
 
 -- no more than n numbers below n are lacking
-pub lack-one-le : (n : ℕ) (s : Set) → lack one n s ≤ n
+pub lack-one-le : (n : ℕ) (s : NumberSet) → lack one n s ≤ n
 unfolding lack
 lack-one-le zero s = omega arith
 lack-one-le (suc n) s = omega (arith, lack-one-le n s, unless-mono 1 false (s n) (λ h. absurd h))

@@ -85,25 +85,25 @@ abbrev pub update : {A : Type 0} → ℕ → A → (ℕ → A) → ℕ → A
 update k x f j = cond (eqb j k) x (f j)
 
 -- A set of numbers is its test.
-abbrev pub Set : Type 0
-Set = ℕ → Bool
+abbrev pub NumberSet : Type 0
+NumberSet = ℕ → Bool
 
-abbrev pub nothing : Set
+abbrev pub nothing : NumberSet
 nothing v = false
 
-abbrev pub union : Set → Set → Set
+abbrev pub union : NumberSet → NumberSet → NumberSet
 union s t v = s v || t v
 
-abbrev pub adding : List ℕ → Set → Set
+abbrev pub adding : List ℕ → NumberSet → NumberSet
 adding vs s v = has v vs || s v
 
-abbrev pub removing : List ℕ → Set → Set
+abbrev pub removing : List ℕ → NumberSet → NumberSet
 removing vs s v = not (has v vs) && s v
 
 -- the members below n, ascending
-abbrev pub members : ℕ → Set → List ℕ
+abbrev pub members : ℕ → NumberSet → List ℕ
 members n s = keep s (upFrom 0 n)
 
 -- some number below n is in the second set and not in the first
-abbrev pub grew : ℕ → Set → Set → Bool
+abbrev pub grew : ℕ → NumberSet → NumberSet → Bool
 grew n old new = any (λ v. new v && not (old v)) (upFrom 0 n)

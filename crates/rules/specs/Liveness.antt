@@ -6,25 +6,25 @@ use mathlib.Core.Option.{Option, none, some}
 use mathlib.Core.List.{List, [], _∷_, map, reverse, List·Memᴰ}
 use lib.ListN.{length}
 use lib.Dec.{T, eqb}
-use Rattle.rules.specs.Lists.{any, keep, count, orElse, concatMap, foldl, zipWith, has, update, upFrom, Set, nothing, union, adding, removing, members, grew}
+use Rattle.rules.specs.Lists.{any, keep, count, orElse, concatMap, foldl, zipWith, has, update, upFrom, NumberSet, nothing, union, adding, removing, members, grew}
 use Rattle.rules.specs.Tree.{Instruction, Function}
 use Rattle.rules.specs.Graph.{blockAt, isMarked, instructionsOf, valuesPassed, successors, reachable}
 
 -- THE RULE. Live across an instruction: after it, with the marked value edge arguments, without the results.
-abbrev pub across : Function → Instruction → Set → Set
+abbrev pub across : Function → Instruction → NumberSet → NumberSet
 across f i after = removing (i .results) (adding (keep (isMarked f) (valuesPassed i)) after)
 
 -- live before an instruction: across it, with the marked arguments
-abbrev pub before : Function → Instruction → Set → Set
+abbrev pub before : Function → Instruction → NumberSet → NumberSet
 before f i after = adding (keep (isMarked f) (i .arguments)) (across f i after)
 
 -- live before a list of instructions, the last one first
-abbrev pub beforeAll : Function → List Instruction → Set → Set
+abbrev pub beforeAll : Function → List Instruction → NumberSet → NumberSet
 beforeAll f [] out = out
 beforeAll f (i ∷ is) out = before f i (beforeAll f is out)
 
 -- live at the start of a block: before its instructions, without its parameters
-abbrev pub through : Function → ℕ → Set → Set
+abbrev pub through : Function → ℕ → NumberSet → NumberSet
 through f b out = removing (blockAt f b .parameters) (beforeAll f (instructionsOf (blockAt f b)) out)
 
 -- THE LEAST SOLUTION, of which document 01 asks for reachable blocks. A value is live out of a block if it is live into a successor; it is live into a block if the rule
@@ -34,14 +34,14 @@ mutual
     successor : {b t v : ℕ} → List·Memᴰ t (successors f b) → LiveIn f t v → LiveOut f b v
 
   pub data LiveIn (f : Function) : ℕ → ℕ → Type 0 where
-    rule : {b v : ℕ} (out : Set) → ((w : ℕ) → T (out w) → LiveOut f b w) → T (through f b out v) → LiveIn f b v
+    rule : {b v : ℕ} (out : NumberSet) → ((w : ℕ) → T (out w) → LiveOut f b w) → T (through f b out v) → LiveIn f b v
 
 -- THE PROCESS. Rows are by block number, and a block stands for its index.
 pub record State : Type 0 where
-  pub ins : ℕ → Set
-  pub outs : ℕ → Set
+  pub ins : ℕ → NumberSet
+  pub outs : ℕ → NumberSet
   pub stack : List ℕ  -- top first, with entries that no longer count
-  pub pending : Set  -- pushed since their last counted pop
+  pub pending : NumberSet  -- pushed since their last counted pop
   pub visited : List ℕ  -- the blocks visited so far, last first
   pub pushes : ℕ
 
@@ -68,7 +68,7 @@ abbrev pub predecessors : Function → ℕ → List ℕ
 predecessors f b = concatMap (λ p. map (λ _. p) (keep (eqb b) (successors f p))) (reachable f)
 
 -- what is live into some successor now
-abbrev pub joined : Function → (ℕ → Set) → ℕ → Set
+abbrev pub joined : Function → (ℕ → NumberSet) → ℕ → NumberSet
 joined f ins b v = any (λ t. ins t v) (successors f b)
 
 -- A visit of b, whose entry was popped off rest: what the rule gives now is added to live-out, then to live-in; if
@@ -89,7 +89,7 @@ visit f s b rest =
     elim (grew (length (f .values)) (s .ins b) new) [ true ↦ foldl push left (predecessors f b) | false ↦ left ]
 
 -- the stack from its topmost entry that counts
-abbrev pub popped : Set → List ℕ → List ℕ
+abbrev pub popped : NumberSet → List ℕ → List ℕ
 popped pending [] = []
 popped pending (b ∷ rest) = elim (pending b) [ true ↦ b ∷ rest | false ↦ popped pending rest ]
 
@@ -115,7 +115,7 @@ unfoldable pub process : Function → State
 process f = after f (bound f) (start f)
 
 -- THE LISTS. For each instruction, what is live across it if it is a safepoint, ascending.
-abbrev pub listsAmong : Function → List Instruction → Set → List (Option (List ℕ))
+abbrev pub listsAmong : Function → List Instruction → NumberSet → List (Option (List ℕ))
 listsAmong f [] out = []
 listsAmong f (i ∷ is) out =
     cond (i .safepoint) (some (members (length (f .values)) (across f i (beforeAll f is out)))) none ∷ listsAmong f is out
@@ -135,5 +135,5 @@ abbrev pub lists : Function → List (Option (List ℕ))
 lists f = concatMap (listsOf f) (upFrom 0 (length (f .blocks)))
 
 -- a value on any list is spilled
-unfoldable pub isSpilled : Function → Set
+unfoldable pub isSpilled : Function → NumberSet
 isSpilled f v = any (λ l. has v (orElse [] l)) (lists f)

@@ -38,18 +38,18 @@ pub record BlockPlan : Type 0 where
   pub instructions : List InstructionPlan
 
 -- a step of planning
-abbrev pub M : Type 0 → Type 0
-M A = Plan → A × Plan
+abbrev pub Planning : Type 0 → Type 0
+Planning A = Plan → A × Plan
 
 infixl 10 _>>=_
-abbrev pub _>>=_ : {A B : Type 0} → M A → (A → M B) → M B
+abbrev pub _>>=_ : {A B : Type 0} → Planning A → (A → Planning B) → Planning B
 _>>=_ m k = λ p. let r = m p in k (r .0) (r .1)
 
-abbrev pub pure : {A : Type 0} → A → M A
+abbrev pub pure : {A : Type 0} → A → Planning A
 pure a = λ p. (a, p)
 
 -- a step for each member, the first one first
-abbrev pub forEach : {A B : Type 0} → (A → M B) → List A → M (List B)
+abbrev pub forEach : {A B : Type 0} → (A → Planning B) → List A → Planning (List B)
 forEach k [] = pure []
 forEach k (x ∷ xs) = do
   y ← k x
@@ -57,7 +57,7 @@ forEach k (x ∷ xs) = do
   pure (y ∷ ys)
 
 -- a step for each member, the last one first
-abbrev pub forEachBackward : {A B : Type 0} → (A → M B) → List A → M (List B)
+abbrev pub forEachBackward : {A B : Type 0} → (A → Planning B) → List A → Planning (List B)
 forEachBackward k [] = pure []
 forEachBackward k (x ∷ xs) = do
   ys ← forEachBackward k xs
@@ -65,57 +65,57 @@ forEachBackward k (x ∷ xs) = do
   pure (y ∷ ys)
 
 -- new values are unmarked, and new values and blocks are numbered as they are made
-abbrev pub newValue : ℕ → M ℕ
+abbrev pub newValue : ℕ → Planning ℕ
 newValue size p = (
   length (p .values),
   record { slots = p .slots; values = p .values ++ (record { size = size; marked = false } ∷ []); blocks = p .blocks },
 )
 
-abbrev pub newBlock : M ℕ
+abbrev pub newBlock : Planning ℕ
 newBlock p = (p .blocks, record { slots = p .slots; values = p .values; blocks = suc (p .blocks) })
 
-abbrev pub changeSlots : (StackSlots → StackSlots) → M Unit
+abbrev pub changeSlots : (StackSlots → StackSlots) → Planning Unit
 changeSlots change p = (tt, record { slots = change (p .slots); values = p .values; blocks = p .blocks })
 
 module _ (f : Function) (pointer : ℕ) where
   -- a slot for a value that has none
-  abbrev pub planSlot : ℕ → M Unit
+  abbrev pub planSlot : ℕ → Planning Unit
   planSlot v = changeSlots (giveSlot v (sizeOf f v))
 
   -- Rule 1, and parameters: a spilled definition that has a slot is stored there, through an address, and its slot is free.
-  abbrev pub planStore : ℕ → Option ℕ → M Made
+  abbrev pub planStore : ℕ → Option ℕ → Planning Made
   planStore v none = pure none
   planStore v (some slot) = do
     address ← newValue pointer
     _ ← changeSlots (freeSlot slot (sizeOf f v))
     pure (some address)
 
-  abbrev pub planDefinition : ℕ → M Made
+  abbrev pub planDefinition : ℕ → Planning Made
   planDefinition v p = cond (isSpilled f v) (planStore v (p .slots .slotOf v) p) (none, p)
 
   -- Rule 3: a spilled use gives its value a slot if it has none, and has an address and a load of its own.
-  abbrev pub planLoad : ℕ → M Made
+  abbrev pub planLoad : ℕ → Planning Made
   planLoad v = do
     _ ← planSlot v
     address ← newValue pointer
     _ ← newValue (sizeOf f v)
     pure (some address)
 
-  abbrev pub planUse : ℕ → M Made
+  abbrev pub planUse : ℕ → Planning Made
   planUse v = cond (isSpilled f v) (planLoad v) (pure none)
 
-  abbrev pub planEdgeUse : EdgeArgument → M Made
+  abbrev pub planEdgeUse : EdgeArgument → Planning Made
   planEdgeUse (passes.Value v) = planUse v
   planEdgeUse (passes.Returned _) = pure none
   planEdgeUse (passes.Exception _) = pure none
 
-  abbrev pub planEdge : Edge → M EdgePlan
+  abbrev pub planEdge : Edge → Planning EdgePlan
   planEdge e = do
     ns ← forEach planEdgeUse (e .arguments)
     pure (record { landing = none; arguments = ns })
 
   -- Rule 2, in a landing: a spilled value is reloaded, a word becomes a parameter of the target parameter's size.
-  abbrev pub planLanded : EdgeArgument → ℕ → M Made
+  abbrev pub planLanded : EdgeArgument → ℕ → Planning Made
   planLanded (passes.Value v) size = planUse v
   planLanded (passes.Returned _) size = do
     parameter ← newValue size
@@ -125,13 +125,13 @@ module _ (f : Function) (pointer : ℕ) where
     pure (some parameter)
 
   -- Rule 2: an edge that passes a spilled value gets a landing block.
-  abbrev pub planLanding : Edge → M EdgePlan
+  abbrev pub planLanding : Edge → Planning EdgePlan
   planLanding e = do
     b ← newBlock
     ns ← forEach (λ m. m) (zipWith (λ x p. planLanded x (sizeOf f p)) (e .arguments) (blockAt f (e .target) .parameters))
     pure (record { landing = some b; arguments = ns })
 
-  abbrev pub planSafepointEdge : Edge → M EdgePlan
+  abbrev pub planSafepointEdge : Edge → Planning EdgePlan
   planSafepointEdge e =
       cond (any (isSpilled f) (valuesAmong (e .arguments)))
       (planLanding e)
@@ -139,7 +139,7 @@ module _ (f : Function) (pointer : ℕ) where
 
   -- One instruction: rule 1; at a safepoint rule 2; rule 3. No edge of a safepoint has a spilled use left for rule 3: one
   -- that passes a spilled value has a landing.
-  abbrev pub planInstruction : Instruction × Option (List ℕ) → M InstructionPlan
+  abbrev pub planInstruction : Instruction × Option (List ℕ) → Planning InstructionPlan
   planInstruction (i, none) = do
     rs ← forEach planDefinition (i .results)
     us ← forEach planUse (i .arguments)
@@ -153,7 +153,7 @@ module _ (f : Function) (pointer : ℕ) where
     pure (record { arguments = us; results = rs; edges = es })
 
   -- One block: slots for the spilled values in live-out, ascending; instructions, last first; parameters as in rule 1.
-  abbrev pub planBlock : ℕ → M BlockPlan
+  abbrev pub planBlock : ℕ → Planning BlockPlan
   planBlock b = do
     _ ← forEach planSlot (keep (isSpilled f) (members (length (f .values)) (process f .outs b)))
     is ← forEachBackward planInstruction (listedInstructions f b)

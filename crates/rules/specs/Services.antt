@@ -6,7 +6,7 @@ use mathlib.Core.List.{List, [], _∷_, _++_, map}
 use lib.ListN.{length, getD, take, replicate}
 use lib.Dec.{ltb, leb, eqb}
 use Rattle.rules.specs.Limits.{recordBytes, largestBlocks, rowWords, tableWords, programInput, programOutput, programPointer}
-use Rattle.rules.specs.Lists.{empty, isNone, orElse, concatMap, upFrom, padded, Set, members}
+use Rattle.rules.specs.Lists.{empty, isNone, orElse, concatMap, upFrom, padded, NumberSet, members}
 use Rattle.rules.specs.Tree.{Function}
 use Rattle.rules.specs.Records.{bit, recordCount, bytes}
 use Rattle.rules.specs.File.{functionRecords, functionIn}
@@ -38,15 +38,15 @@ needed v n = elim (isAccepted v || eqb (refusalNumber v) 11) [ true ↦ n | fals
 
 -- LIVENESS, of file s, with lent tables of n and m words.
 -- word w of a set's row: value v at bit v mod 64 of word v / 64
-abbrev pub bitsFrom : Set → ℕ → ℕ → ℕ
+abbrev pub bitsFrom : NumberSet → ℕ → ℕ → ℕ
 bitsFrom s v zero = 0
 bitsFrom s v (suc k) = bit (s v) + 2 * bitsFrom s (suc v) k
 
-abbrev pub rowWord : Set → ℕ → ℕ
+abbrev pub rowWord : NumberSet → ℕ → ℕ
 rowWord s w = bitsFrom s (64 * w) 64
 
 -- the rows of all blocks; of an unreachable block, and of one that is not in the file, the set is empty
-abbrev pub table : (ℕ → Set) → List ℕ
+abbrev pub table : (ℕ → NumberSet) → List ℕ
 table rows = concatMap (λ b. map (rowWord (rows b)) (upFrom 0 rowWords)) (upFrom 0 largestBlocks)
 
 unfoldable pub livenessVerdict : List ℕ → ℕ → ℕ → Verdict

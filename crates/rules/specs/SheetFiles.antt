@@ -276,6 +276,17 @@ unmarked-rewritten =
     ∷ (3, 1, 0, 0) ∷ (12, 4, 0, 0) ∷ (13, 1, 4, 0) ∷ (4, 1, 0, 0) ∷ (11, 0, 4, 0) ∷ (12, 2, 0, 0) ∷ (14, 3, 2, 4) ∷ (4, 2, 0, 0)
     ∷ (6, 0, 0, 0) ∷ (6, 3, 0, 0) ∷ []
 
+-- two values live out of a loop
+unfoldable pub early : List Row
+early =
+    (1, 4, 1, 0) ∷ (1, 4, 1, 0) ∷ (2, 0, 0, 0) ∷ (3, 0, 0, 0) ∷ (3, 1, 0, 0) ∷ (4, 2, 0, 0) ∷ (7, 1, 0, 0) ∷ (2, 0, 1, 0)
+    ∷ (4, 1, 0, 0) ∷ (4, 0, 0, 0) ∷ (6, 1, 0, 0) ∷ (6, 0, 0, 0) ∷ (4, 2, 0, 0) ∷ (7, 1, 0, 0) ∷ []
+
+-- a spilled result that no later instruction asks a slot for
+unfoldable pub slotless : List Row
+slotless =
+    (1, 4, 1, 0) ∷ (2, 0, 0, 0) ∷ (4, 1, 0, 0) ∷ (4, 0, 0, 0) ∷ (6, 0, 0, 0) ∷ (5, 0, 0, 0) ∷ (4, 2, 0, 0) ∷ []
+
 -- an instruction that uses what it defines, in a loop
 unfoldable pub own-result : List Row
 own-result =

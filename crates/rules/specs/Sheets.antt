@@ -6,7 +6,7 @@ use mathlib.Core.Bool.{true}
 use mathlib.Core.List.{List, [], _∷_, _++_, map, reverse}
 use lib.ListN.{length, getD, replicate}
 use lib.Dec.{eqb}
-use Rattle.rules.specs.Lists.{keep, orElse, upFrom}
+use Rattle.rules.specs.Lists.{keep, orElse, foldl, upFrom}
 use Rattle.rules.specs.Records.{wordAt, bit, decode, recordAt, records, firstWords, bytes}
 use Rattle.rules.specs.File.{followers, follows, function, functionRecords, functionIn}
 use Rattle.rules.specs.Graph.{reachable}
@@ -16,7 +16,7 @@ use Rattle.rules.specs.Slots.{giveSlot, freeSlot}
 use Rattle.rules.specs.Plan.{planned}
 use Rattle.rules.specs.Rewriting.{rewritten}
 use Rattle.rules.specs.Services.{livenessVerdict, livenessAnswer, livenessIns, livenessOuts, listVerdict, listAnswer, listWords, recordsOf, rewritingVerdict, rewritingAnswer, rewritingOutput, finalRecords, programWrites}
-use Rattle.rules.specs.SheetFiles.{file, p1, p1-rewritten, p2, p3, p4, p5, p6, p6-rewritten, p7, p7-rewritten, p8, p9, p9-across, p10, p10-unreachable, freed-twice, spilled-result, spilled-result-rewritten, store-then-load, store-then-load-rewritten, parameter, parameter-rewritten, landing-words, landing-words-rewritten, plain-edges, plain-edges-rewritten, parameters, parameters-rewritten, results, results-rewritten, cold, cold-rewritten, copied, copied-rewritten, landings, landings-rewritten, unmarked, unmarked-rewritten, own-result, own-result-rewritten, undominated, undominated-rewritten, sizes, sizes-rewritten, unreachable, two-edges, many}
+use Rattle.rules.specs.SheetFiles.{file, p1, p1-rewritten, p2, p3, p4, p5, p6, p6-rewritten, p7, p7-rewritten, p8, p9, p9-across, p10, p10-unreachable, freed-twice, spilled-result, spilled-result-rewritten, store-then-load, store-then-load-rewritten, parameter, parameter-rewritten, landing-words, landing-words-rewritten, plain-edges, plain-edges-rewritten, parameters, parameters-rewritten, results, results-rewritten, cold, cold-rewritten, copied, copied-rewritten, landings, landings-rewritten, unmarked, unmarked-rewritten, early, slotless, own-result, own-result-rewritten, undominated, undominated-rewritten, sizes, sizes-rewritten, unreachable, two-edges, many}
 use Rattle.rules.specs.declared.RewritingAnswer.{RewritingAnswer}
 use Rattle.rules.specs.declared.Verdict.the-variants as verdict
 
@@ -25,11 +25,11 @@ pub data Ask : Type 0 where
   rewrites : (pointer lent : ℕ) → Ask  -- the whole lent output
   answers : (pointer lent : ℕ) → Ask  -- rewriting's refusal, records, slots, landings, visits, pushes, unchanged
   refuses : Ask  -- rewriting's refusal, for pointer size 8 and room enough
-  final : Ask  -- how many bytes the final records are
+  final : (pointer : ℕ) → Ask  -- the bytes of the final records
   part : (records : ℕ) → Ask  -- the same by an answer that no call gave: unchanged, with so many records
   visits : Ask  -- the blocks visited, in order
   lists : (instruction lent : ℕ) → Ask  -- a list's refusal, its count, and the lent words
-  liveness : (ins outs : ℕ) → Ask  -- liveness's refusal, visits and pushes with tables so long, and their lengths after it
+  liveness : (ins outs : ℕ) → Ask  -- liveness's refusal, visits and pushes with tables so long, and of each its length and sum
   row : (block word : ℕ) → Ask  -- a word of a block's rows, live-in and live-out
   slots : Ask  -- the slot of each value, 99 for none
   layout : Ask  -- the numbers of the output's blocks, in their order
@@ -45,16 +45,18 @@ answer (answers pointer lent) s =
     let a = rewritingAnswer s pointer lent in
     refusalNumber (a .verdict) ∷ a .records ∷ a .slots ∷ a .landings ∷ a .visits ∷ a .pushes ∷ bit (a .unchanged) ∷ []
 answer refuses s = refusalNumber (rewritingAnswer s 8 room .verdict) ∷ []
-answer final s = length (finalRecords (rewritingAnswer s 8 room) s (rewritingOutput s 8 room)) ∷ []
+answer (final pointer) s = finalRecords (rewritingAnswer s pointer room) s (rewritingOutput s pointer room)
 answer (part n) s =
     let given : RewritingAnswer =
     record { verdict = verdict.Accepted; records = n; slots = 0; landings = 0; visits = 0; pushes = 0; unchanged = true } in
-    length (finalRecords given s []) ∷ []
+    finalRecords given s []
 answer visits s = reverse (process (functionIn s) .visited)
 answer (lists i lent) s = let a = listAnswer s i lent in refusalNumber (a .verdict) ∷ a .count ∷ listWords s i lent
 answer (liveness n m) s =
     let a = livenessAnswer s n m in
-    refusalNumber (a .verdict) ∷ a .visits ∷ a .pushes ∷ length (livenessIns s n m) ∷ length (livenessOuts s n m) ∷ []
+    let i = livenessIns s n m in
+    let o = livenessOuts s n m in
+    refusalNumber (a .verdict) ∷ a .visits ∷ a .pushes ∷ length i ∷ foldl _+_ 0 i ∷ length o ∷ foldl _+_ 0 o ∷ []
 answer (row b w) s = getD (livenessIns s 512 512) (8 * b + w) 0 ∷ getD (livenessOuts s 512 512) (8 * b + w) 0 ∷ []
 answer slots s =
     let f = functionIn s in
@@ -74,14 +76,17 @@ sheets =
     -- P1
     record { asked = rewrites 8 272; of = file p1; says = file (p1-rewritten ++ ((0, 0, 0, 0) ∷ [])) }
     ∷ record { asked = answers 8 1024; of = file p1; says = 0 ∷ 16 ∷ 1 ∷ 0 ∷ 1 ∷ 1 ∷ 0 ∷ [] }
-    ∷ record { asked = final; of = file p1; says = 256 ∷ [] }
+    ∷ record { asked = final 8; of = file p1; says = file p1-rewritten }
+    ∷ record { asked = final 3; of = file p1; says = [] }
     -- P2
     ∷ record { asked = visits; of = file p2; says = 3 ∷ 2 ∷ 0 ∷ 1 ∷ 0 ∷ [] }
     ∷ record { asked = answers 8 1024; of = file p2; says = 0 ∷ 16 ∷ 0 ∷ 0 ∷ 5 ∷ 8 ∷ 1 ∷ [] }
     -- P3
     ∷ record { asked = slots; of = file p3; says = 0 ∷ 0 ∷ [] }
+    ∷ record { asked = answers 8 1024; of = file p3; says = 0 ∷ 30 ∷ 1 ∷ 0 ∷ 1 ∷ 1 ∷ 0 ∷ [] }
     -- P4
     ∷ record { asked = slots; of = file p4; says = 1 ∷ 0 ∷ [] }
+    ∷ record { asked = answers 8 1024; of = file p4; says = 0 ∷ 31 ∷ 2 ∷ 0 ∷ 1 ∷ 1 ∷ 0 ∷ [] }
     -- P5
     ∷ record { asked = slots; of = file p5; says = 1 ∷ 0 ∷ [] }
     ∷ record { asked = answers 8 1024; of = file p5; says = 0 ∷ 38 ∷ 2 ∷ 0 ∷ 4 ∷ 6 ∷ 0 ∷ [] }
@@ -94,7 +99,7 @@ sheets =
     -- P8
     ∷ record { asked = lists 1 0; of = file p8; says = 0 ∷ 0 ∷ [] }
     ∷ record { asked = answers 8 1024; of = file p8; says = 0 ∷ 7 ∷ 0 ∷ 0 ∷ 1 ∷ 1 ∷ 1 ∷ [] }
-    ∷ record { asked = final; of = file p8; says = 112 ∷ [] }
+    ∷ record { asked = final 8; of = file p8; says = file p8 }
     -- P9
     ∷ record { asked = refuses; of = file p9; says = 0 ∷ [] }
     ∷ record { asked = refuses; of = file p9-across; says = 9 ∷ [] }
@@ -127,18 +132,22 @@ sheets =
     ∷ record { asked = rewrites 8 816; of = file landings; says = file landings-rewritten }
     -- an unmarked value is on no list
     ∷ record { asked = rewrites 8 288; of = file unmarked; says = file unmarked-rewritten }
+    -- early slots ascending
+    ∷ record { asked = slots; of = file early; says = 0 ∷ 1 ∷ [] }
+    -- a spilled result without a slot is not stored
+    ∷ record { asked = answers 8 1024; of = file slotless; says = 0 ∷ 13 ∷ 1 ∷ 0 ∷ 1 ∷ 1 ∷ 0 ∷ [] }
     -- a result is removed before the arguments are added; an early slot for what is live out
     ∷ record { asked = rewrites 8 320; of = file own-result; says = file own-result-rewritten }
-    -- a slot first for what is live out, though it is not live in; a value keeps its number though the slot is freed
+    -- a slot first for what is live out, though it is not live in
     ∷ record { asked = rewrites 8 384; of = file undominated; says = file undominated-rewritten }
     -- slots of each size, and pointers of four bytes
     ∷ record { asked = rewrites 4 944; of = file sizes; says = file sizes-rewritten }
     ∷ record { asked = answers 4 4; of = file sizes; says = 11 ∷ 59 ∷ 0 ∷ 0 ∷ 0 ∷ 0 ∷ 0 ∷ [] }
     -- an unreachable predecessor is not pushed, and its rows are 0
-    ∷ record { asked = liveness 512 512; of = file unreachable; says = 0 ∷ 2 ∷ 3 ∷ 512 ∷ 512 ∷ [] }
+    ∷ record { asked = liveness 512 512; of = file unreachable; says = 0 ∷ 2 ∷ 3 ∷ 512 ∷ 1 ∷ 512 ∷ 1 ∷ [] }
     ∷ record { asked = row 2 0; of = file unreachable; says = 0 ∷ 0 ∷ [] }
     -- two edges to one target are pushed twice
-    ∷ record { asked = liveness 512 512; of = file two-edges; says = 0 ∷ 2 ∷ 4 ∷ 512 ∷ 512 ∷ [] }
+    ∷ record { asked = liveness 512 512; of = file two-edges; says = 0 ∷ 2 ∷ 4 ∷ 512 ∷ 1 ∷ 512 ∷ 1 ∷ [] }
     ∷ record { asked = row 0 0; of = file two-edges; says = 0 ∷ 1 ∷ [] }
     ∷ record { asked = row 1 0; of = file two-edges; says = 1 ∷ 0 ∷ [] }
     -- value n at bit n mod 64 of word n / 64, and parameters removed
@@ -178,8 +187,47 @@ sheets =
     ∷ record { asked = rewrites 8 16; of = file p1; says = replicate 16 0 }
     ∷ record { asked = answers 8 0; of = file p8; says = 0 ∷ 7 ∷ 0 ∷ 0 ∷ 1 ∷ 1 ∷ 1 ∷ [] }
     ∷ record { asked = lists 1 0; of = file p1; says = 11 ∷ 1 ∷ [] }
-    ∷ record { asked = liveness 511 512; of = file p2; says = 11 ∷ 0 ∷ 0 ∷ 511 ∷ 512 ∷ [] }
-    ∷ record { asked = liveness 512 511; of = file p2; says = 11 ∷ 0 ∷ 0 ∷ 512 ∷ 511 ∷ [] }
+    ∷ record { asked = liveness 511 512; of = file p2; says = 11 ∷ 0 ∷ 0 ∷ 511 ∷ 0 ∷ 512 ∷ 0 ∷ [] }
+    ∷ record { asked = liveness 512 511; of = file p2; says = 11 ∷ 0 ∷ 0 ∷ 512 ∷ 0 ∷ 511 ∷ 0 ∷ [] }
+    -- 1: pointer size 16; and a refusal is not unchanged
+    ∷ record { asked = answers 16 1024; of = file p1; says = 1 ∷ 0 ∷ 0 ∷ 0 ∷ 0 ∷ 0 ∷ 0 ∷ [] }
+    ∷ record { asked = answers 3 1024; of = file p8; says = 1 ∷ 0 ∷ 0 ∷ 0 ∷ 0 ∷ 0 ∷ 0 ∷ [] }
+    -- 3: the largest counts themselves are not refused
+    ∷ record { asked = refuses; of = file (replicate 2048 (99, 0, 0, 0)); says = 4 ∷ [] }
+    ∷ record { asked = refuses; of = file (replicate 64 (2, 0, 0, 0)); says = 4 ∷ [] }
+    ∷ record { asked = refuses; of = file (replicate 1024 (4, 0, 0, 0)); says = 4 ∷ [] }
+    ∷ record { asked = refuses; of = file (replicate 256 (7, 0, 0, 0)); says = 4 ∷ [] }
+    -- 4: an unused word that is not 0, of each kind
+    ∷ record { asked = refuses; of = file ((1, 4, 0, 1) ∷ (2, 0, 0, 0) ∷ (3, 0, 0, 0) ∷ (4, 2, 0, 0) ∷ []); says = 4 ∷ [] }
+    ∷ record { asked = refuses; of = file ((1, 4, 0, 0) ∷ (2, 0, 0, 1) ∷ (3, 0, 0, 0) ∷ (4, 2, 0, 0) ∷ []); says = 4 ∷ [] }
+    ∷ record { asked = refuses; of = file ((1, 4, 0, 0) ∷ (2, 0, 0, 0) ∷ (3, 0, 1, 0) ∷ (4, 2, 0, 0) ∷ []); says = 4 ∷ [] }
+    ∷ record { asked = refuses; of = file ((1, 4, 0, 0) ∷ (2, 0, 0, 0) ∷ (3, 0, 0, 1) ∷ (4, 2, 0, 0) ∷ []); says = 4 ∷ [] }
+    ∷ record { asked = refuses; of = file ((1, 4, 0, 0) ∷ (2, 0, 0, 0) ∷ (3, 0, 0, 0) ∷ (4, 2, 0, 1) ∷ []); says = 4 ∷ [] }
+    ∷ record { asked = refuses; of = file ((1, 4, 0, 0) ∷ (2, 0, 0, 0) ∷ (4, 0, 0, 0) ∷ (5, 0, 1, 0) ∷ (4, 2, 0, 0) ∷ []); says = 4 ∷ [] }
+    ∷ record { asked = refuses; of = file ((1, 4, 0, 0) ∷ (2, 0, 0, 0) ∷ (4, 0, 0, 0) ∷ (5, 0, 0, 1) ∷ (4, 2, 0, 0) ∷ []); says = 4 ∷ [] }
+    ∷ record { asked = refuses; of = file ((1, 4, 0, 0) ∷ (2, 0, 0, 0) ∷ (3, 0, 0, 0) ∷ (4, 2, 0, 0) ∷ (6, 0, 1, 0) ∷ []); says = 4 ∷ [] }
+    ∷ record { asked = refuses; of = file ((1, 4, 0, 0) ∷ (2, 0, 0, 0) ∷ (3, 0, 0, 0) ∷ (4, 2, 0, 0) ∷ (6, 0, 0, 1) ∷ []); says = 4 ∷ [] }
+    ∷ record { asked = refuses; of = file ((2, 0, 0, 0) ∷ (4, 2, 0, 0) ∷ (7, 1, 1, 0) ∷ (2, 0, 1, 0) ∷ (4, 2, 0, 0) ∷ []); says = 4 ∷ [] }
+    ∷ record { asked = refuses; of = file ((2, 0, 0, 0) ∷ (4, 2, 0, 0) ∷ (7, 1, 0, 1) ∷ (2, 0, 1, 0) ∷ (4, 2, 0, 0) ∷ []); says = 4 ∷ [] }
+    ∷ record { asked = refuses; of = file ((1, 4, 0, 0) ∷ (1, 4, 0, 0) ∷ (2, 0, 0, 0) ∷ (3, 0, 0, 0) ∷ (4, 2, 0, 0) ∷ (7, 1, 0, 0) ∷ (8, 0, 0, 1) ∷ (2, 0, 1, 0) ∷ (3, 1, 0, 0) ∷ (4, 2, 0, 0) ∷ []); says = 4 ∷ [] }
+    ∷ record { asked = refuses; of = file ((1, 4, 0, 0) ∷ (2, 0, 0, 0) ∷ (3, 0, 0, 0) ∷ (4, 3, 0, 0) ∷ (9, 0, 1, 0) ∷ []); says = 4 ∷ [] }
+    ∷ record { asked = refuses; of = file ((1, 4, 0, 0) ∷ (2, 0, 0, 0) ∷ (3, 0, 0, 0) ∷ (4, 3, 0, 0) ∷ (9, 0, 0, 1) ∷ []); says = 4 ∷ [] }
+    -- 4: marked 2; cold 2
+    ∷ record { asked = refuses; of = file ((1, 4, 2, 0) ∷ (2, 0, 0, 0) ∷ (3, 0, 0, 0) ∷ (4, 2, 0, 0) ∷ []); says = 4 ∷ [] }
+    ∷ record { asked = refuses; of = file ((2, 2, 0, 0) ∷ (4, 2, 0, 0) ∷ []); says = 4 ∷ [] }
+    -- 5: a parameter, a context, an edge argument that is not in the file
+    ∷ record { asked = refuses; of = file ((1, 4, 0, 0) ∷ (2, 0, 0, 0) ∷ (3, 1, 0, 0) ∷ (4, 2, 0, 0) ∷ []); says = 5 ∷ [] }
+    ∷ record { asked = refuses; of = file ((1, 4, 0, 0) ∷ (2, 0, 0, 0) ∷ (3, 0, 0, 0) ∷ (4, 3, 0, 0) ∷ (9, 1, 0, 0) ∷ []); says = 5 ∷ [] }
+    ∷ record { asked = refuses; of = file ((1, 4, 0, 0) ∷ (1, 4, 0, 0) ∷ (2, 0, 0, 0) ∷ (3, 0, 0, 0) ∷ (4, 2, 0, 0) ∷ (7, 1, 0, 0) ∷ (8, 0, 2, 0) ∷ (2, 0, 1, 0) ∷ (3, 1, 0, 0) ∷ (4, 2, 0, 0) ∷ []); says = 5 ∷ [] }
+    -- 6: a value that is never defined
+    ∷ record { asked = refuses; of = file ((1, 4, 0, 0) ∷ (2, 0, 0, 0) ∷ (4, 2, 0, 0) ∷ []); says = 6 ∷ [] }
+    -- 7: a context on a safepoint that is no terminator; too many edge arguments
+    ∷ record { asked = refuses; of = file ((1, 4, 0, 0) ∷ (2, 0, 0, 0) ∷ (3, 0, 0, 0) ∷ (4, 1, 0, 0) ∷ (9, 0, 0, 0) ∷ (4, 2, 0, 0) ∷ []); says = 7 ∷ [] }
+    ∷ record { asked = refuses; of = file ((1, 4, 0, 0) ∷ (1, 4, 0, 0) ∷ (2, 0, 0, 0) ∷ (3, 0, 0, 0) ∷ (3, 1, 0, 0) ∷ (4, 2, 0, 0) ∷ (7, 1, 0, 0) ∷ (8, 0, 0, 0) ∷ (8, 0, 1, 0) ∷ (2, 0, 1, 0) ∷ (4, 2, 0, 0) ∷ []); says = 7 ∷ [] }
+    -- 9: a value of size 32 live across; liveness and lists answer all the same
+    ∷ record { asked = refuses; of = file ((1, 32, 1, 0) ∷ (2, 0, 0, 0) ∷ (4, 0, 7, 0) ∷ (5, 0, 0, 0) ∷ (4, 1, 8, 0) ∷ (4, 2, 9, 0) ∷ (6, 0, 0, 0) ∷ []); says = 9 ∷ [] }
+    ∷ record { asked = liveness 512 512; of = file p9-across; says = 0 ∷ 1 ∷ 1 ∷ 512 ∷ 0 ∷ 512 ∷ 0 ∷ [] }
+    ∷ record { asked = lists 1 1; of = file p9-across; says = 0 ∷ 1 ∷ 0 ∷ [] }
     -- 4: an argument behind a result; an edge behind a context; a block without an instruction, inside and at the end
     ∷ record { asked = refuses; of = file ((1, 4, 0, 0) ∷ (2, 0, 0, 0) ∷ (4, 0, 0, 0) ∷ (5, 0, 0, 0) ∷ (6, 0, 0, 0) ∷ (4, 2, 0, 0) ∷ []); says = 4 ∷ [] }
     ∷ record { asked = refuses; of = file ((1, 4, 0, 0) ∷ (2, 0, 0, 0) ∷ (4, 3, 0, 0) ∷ (9, 0, 0, 0) ∷ (7, 0, 0, 0) ∷ []); says = 4 ∷ [] }
@@ -212,14 +260,16 @@ sheets =
     ∷ record { asked = refuses; of = file (p1 ++ ((14, 0, 0, 4) ∷ [])); says = 4 ∷ [] }
     ∷ record { asked = refuses; of = file (p1 ++ ((15, 0, 0, 0) ∷ [])); says = 4 ∷ [] }
     -- final records by any answer: the first records x 16 bytes, none where the buffer is shorter
-    ∷ record { asked = part 2; of = file ((1, 4, 0, 0) ∷ (1, 4, 0, 0) ∷ []); says = 32 ∷ [] }
-    ∷ record { asked = part 3; of = file ((1, 4, 0, 0) ∷ (1, 4, 0, 0) ∷ []); says = 0 ∷ [] }
+    ∷ record { asked = part 2; of = file ((1, 4, 0, 0) ∷ (1, 4, 0, 0) ∷ (1, 4, 0, 0) ∷ []); says = file ((1, 4, 0, 0) ∷ (1, 4, 0, 0) ∷ []) }
+    ∷ record { asked = part 3; of = file ((1, 4, 0, 0) ∷ (1, 4, 0, 0) ∷ []); says = [] }
     -- the program writes the final records, or `refused n` and a line feed; 3 above 32,768 bytes
     ∷ record { asked = program; of = file p8; says = file p8 }
+    ∷ record { asked = program; of = file p1; says = file p1-rewritten }
     ∷ record { asked = program; of = []; says = 114 ∷ 101 ∷ 102 ∷ 117 ∷ 115 ∷ 101 ∷ 100 ∷ 32 ∷ 52 ∷ 10 ∷ [] }
+    ∷ record { asked = program; of = replicate 32768 0; says = 114 ∷ 101 ∷ 102 ∷ 117 ∷ 115 ∷ 101 ∷ 100 ∷ 32 ∷ 52 ∷ 10 ∷ [] }
     ∷ record { asked = program; of = replicate 32769 0; says = 114 ∷ 101 ∷ 102 ∷ 117 ∷ 115 ∷ 101 ∷ 100 ∷ 32 ∷ 51 ∷ 10 ∷ [] }
     ∷ []
 
 pub sheets-hold : map (λ (x : Sheet). answer (x .asked) (x .of)) sheets ≡ map (λ (x : Sheet). x .says) sheets
-unfolding sheets p1 p1-rewritten p2 p3 p4 p5 p6 p6-rewritten p7 p7-rewritten p8 p9 p9-across p10 p10-unreachable freed-twice spilled-result spilled-result-rewritten store-then-load store-then-load-rewritten parameter parameter-rewritten landing-words landing-words-rewritten plain-edges plain-edges-rewritten parameters parameters-rewritten results results-rewritten cold cold-rewritten copied copied-rewritten landings landings-rewritten unmarked unmarked-rewritten own-result own-result-rewritten undominated undominated-rewritten sizes sizes-rewritten unreachable two-edges many decode recordAt records firstWords bytes followers follows function functionRecords reachable process listsOf isSpilled fileRefusals giveSlot freeSlot planned rewritten livenessVerdict livenessAnswer livenessIns livenessOuts listVerdict listAnswer listWords recordsOf rewritingVerdict rewritingAnswer rewritingOutput finalRecords programWrites
+unfolding sheets p1 p1-rewritten p2 p3 p4 p5 p6 p6-rewritten p7 p7-rewritten p8 p9 p9-across p10 p10-unreachable freed-twice spilled-result spilled-result-rewritten store-then-load store-then-load-rewritten parameter parameter-rewritten landing-words landing-words-rewritten plain-edges plain-edges-rewritten parameters parameters-rewritten results results-rewritten cold cold-rewritten copied copied-rewritten landings landings-rewritten unmarked unmarked-rewritten early slotless own-result own-result-rewritten undominated undominated-rewritten sizes sizes-rewritten unreachable two-edges many decode recordAt records firstWords bytes followers follows function functionRecords reachable process listsOf isSpilled fileRefusals giveSlot freeSlot planned rewritten livenessVerdict livenessAnswer livenessIns livenessOuts listVerdict listAnswer listWords recordsOf rewritingVerdict rewritingAnswer rewritingOutput finalRecords programWrites
 sheets-hold = refl

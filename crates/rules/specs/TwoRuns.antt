@@ -5,7 +5,7 @@ use mathlib.Core.Option.{Option, none, some}
 use mathlib.Core.List.{List, [], _∷_, map}
 use lib.ListN.{length, getD}
 use lib.Dec.{eqb}
-use Rattle.rules.specs.Lists.{count, has, update, upFrom, Set, nothing}
+use Rattle.rules.specs.Lists.{count, has, update, upFrom, NumberSet, nothing}
 use Rattle.rules.specs.Tree.{Edge, Instruction, Item, instruction, slotAddress, store, load, jump, Block, Function}
 use Rattle.rules.specs.Records.{bit}
 use Rattle.rules.specs.Graph.{blockAt, instructionsAmong}
@@ -40,7 +40,7 @@ pub record Seen : Type 0 where
 -- keep them whole, and the words that have arrived at a block's parameters since the last step
 pub record Machine : Type 0 where
   pub words : ℕ → ℕ
-  pub defined : Set
+  pub defined : NumberSet
   pub slots : ℕ → ℕ
   pub arrived : Option (List ℕ)
 
@@ -88,7 +88,7 @@ alongOnly [] m = ends
 alongOnly (e ∷ _) m = along e m
 
 -- The machine is given which instructions are steps, and which values move at a safepoint.
-module _ (f : Function) (isStep : Instruction → Bool) (moving : Set) (world : World) (mover : Mover) where
+module _ (f : Function) (isStep : Instruction → Bool) (moving : NumberSet) (world : World) (mover : Mover) where
   -- added instructions are no steps; stores and loads go through the address that was computed
   abbrev pub meet : List Item → ℕ → Machine → Next
   meet [] k m = ends

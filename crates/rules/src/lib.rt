@@ -102,7 +102,7 @@ pub struct RewritingAnswer {
     pub unchanged: bool,
 }
 
-// The limits; specs/Limits.antt has the same numbers, and contracts tie the two together.
+// The limits; specs/Limits.antt has the same numbers, which the contracts speak of.
 pub const RECORD_BYTES: usize = 16;
 
 pub const LARGEST_RECORDS: usize = 2048;

@@ -8,7 +8,7 @@ use mathlib.Core.Bool.{Bool, true, false, not, _&&_, _||_, cond}
 use mathlib.Core.Option.{Option}
 use mathlib.Core.List.{List, [], _∷_, map}
 use lib.Dec.{T, eqb}
-use Rattle.rules.specs.Lists.{has, update, Set}
+use Rattle.rules.specs.Lists.{has, update, NumberSet}
 use Rattle.rules.specs.Tree.{Item, instruction, slotAddress, store, load, jump}
 use Rattle.rules.specs.TwoRuns.{Machine, defineFrom, define, storeAt, setArrived}
 use Rattle.lists.specs.Tests.{T-cond}
@@ -20,7 +20,7 @@ use Rattle.simulation.specs.Ghost.{defining, same, overMove}
 -- the original's words and which of them are set, and those that its last instruction returned and threw
 pub record Against : Type 0 where
   pub words : ℕ → ℕ
-  pub defined : Set
+  pub defined : NumberSet
   pub returned : ℕ → ℕ
   pub exception : ℕ → ℕ
 
@@ -114,7 +114,7 @@ added-agrees o (load r y _) {γ} {m} a =
 added-agrees o (jump _) a = a
 
 -- A MOVE
-module _ (marked : Set) (move : ℕ → ℕ) where
+module _ (marked : NumberSet) (move : ℕ → ℕ) where
   -- the original's words after a move of the marked values that are defined
   abbrev pub movedAgainst : Against → Against
   movedAgainst o =

@@ -8,7 +8,7 @@ use mathlib.Core.Option.{Option, none, some, Option·some-injective, Option·non
 use mathlib.Core.List.{List, [], _∷_}
 use lib.ListN.{length, getD}
 use lib.Dec.{T, T-not, not-T, eqb, eqb→eq}
-use Rattle.rules.specs.Lists.{count, has, Set}
+use Rattle.rules.specs.Lists.{count, has, NumberSet}
 use Rattle.rules.specs.Tree.{Edge, Item, instruction, slotAddress, store, load, jump, Block, Function}
 use Rattle.rules.specs.Graph.{instructionsAmong}
 use Rattle.rules.specs.TwoRuns.{World, Mover, Machine, Next, ends, enterWith, enterAmong}
@@ -125,7 +125,7 @@ module _ {original : List ℕ} where
       go false q later = later q
 
 -- ENTERED
-module _ (f : Function) (moving : Set) (world : World) (mover : Mover) (ws : List ℕ) (m : Machine) where
+module _ (f : Function) (moving : NumberSet) (world : World) (mover : Mover) (ws : List ℕ) (m : Machine) where
   -- a run that comes to a block enters it
   abbrev pub entered : Option (ℕ × Block) → Next
   entered none = ends

@@ -4,7 +4,7 @@
 use Prim.Native.Nat.{ℕ}
 use mathlib.Core.Bool.{Bool, true, false, not, cond}
 use mathlib.Core.List.{List, [], _∷_, map}
-use Rattle.rules.specs.Lists.{has, update, Set}
+use Rattle.rules.specs.Lists.{has, update, NumberSet}
 use Rattle.rules.specs.Tree.{Instruction, Item, instruction, slotAddress, store, load, jump}
 use Rattle.rules.specs.declared.EdgeArgument.{EdgeArgument}
 use Rattle.rules.specs.declared.EdgeArgument.the-variants as passes
@@ -73,7 +73,7 @@ same false b = not b
 
 -- A marked value moves in the original: its word is still known of what moves with it, and of nothing else. An unmarked
 -- one stays.
-abbrev pub overMove : Set → Bool → Meaning → Meaning
+abbrev pub overMove : NumberSet → Bool → Meaning → Meaning
 overMove marked moves unknown = unknown
 overMove marked moves (address s) = cond moves unknown (address s)
 overMove marked moves (word v) = cond (same (marked v) moves) (word v) unknown
@@ -81,7 +81,7 @@ overMove marked moves (returned _) = unknown
 overMove marked moves (exception _) = unknown
 
 -- over an instruction: at a safepoint references move, the listed slots with them; then its results are set
-abbrev pub moving : Set → Instruction → Ghost → Ghost
+abbrev pub moving : NumberSet → Instruction → Ghost → Ghost
 moving marked j γ =
     elim (j .safepoint) [
       | true ↦
@@ -92,7 +92,7 @@ moving marked j γ =
       | false ↦ γ
     ]
 
-abbrev pub stepping : Set → Instruction → Ghost → Ghost
+abbrev pub stepping : NumberSet → Instruction → Ghost → Ghost
 stepping marked j γ = defining (j .results) (moving marked j γ)
 
 -- what an edge of an instruction passes; a landing's jump has no returned or exception words

@@ -6,7 +6,7 @@ use mathlib.Core.Logic.{_⊎_, inl, inr}
 use mathlib.Core.Bool.{Bool, true, false, _&&_, cond}
 use mathlib.Core.List.{List, [], _∷_, map}
 use lib.Dec.{T, eqb, eqb→eq}
-use Rattle.rules.specs.Lists.{has, Set}
+use Rattle.rules.specs.Lists.{has, NumberSet}
 use Rattle.rules.specs.Tree.{Instruction, Item, instruction, slotAddress, store, load, jump}
 use Rattle.rules.specs.declared.EdgeArgument.{EdgeArgument}
 use Rattle.rules.specs.declared.EdgeArgument.the-variants as passes
@@ -160,7 +160,7 @@ below-defining vs b =
       slots = λ s. less-ap (stillAfter vs) refl (b .slots s);
     }
 
-pub below-stepping : (marked : Set) (j : Instruction) {κ γ : Ghost} → Below κ γ → Below (stepping marked j κ) (stepping marked j γ)
+pub below-stepping : (marked : NumberSet) (j : Instruction) {κ γ : Ghost} → Below κ γ → Below (stepping marked j κ) (stepping marked j γ)
 below-stepping marked j {κ} {γ} b = below-defining (j .results) (go (j .safepoint))
   where
     over : Ghost → Ghost

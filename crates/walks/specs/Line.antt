@@ -9,7 +9,7 @@ use mathlib.Core.Bool.{not}
 use mathlib.Core.List.{List, [], _∷_, reverseAux, List·Mem, List·Nodup}
 use mathlib.Core.List.{Pairwise, Pairwise·nil, Pairwise·cons, Pairwise·imp, pairwise-reverseAux}
 use lib.Dec.{T, T-not}
-use Rattle.rules.specs.Lists.{Set, nothing}
+use Rattle.rules.specs.Lists.{NumberSet, nothing}
 use Rattle.rules.specs.Tree.{Function}
 use Rattle.rules.specs.Graph.{successors}
 use Rattle.rules.specs.Demand3.{PathTo, onward}
@@ -26,12 +26,12 @@ abbrev pub line : Stage → List ℕ → List ℕ
 line s passed = reverseAux (s .done) passed
 
 -- a path leads to x along other blocks of a set
-abbrev pub Reached : Function → Set → ℕ → Type 0
+abbrev pub Reached : Function → NumberSet → ℕ → Type 0
 Reached f s x = Path-along f (λ y. T (s y) × (y ≢ x)) x
 
 -- A line has the blocks entered and no others, none of them dominates one behind it, and to each a path leads along
 -- others of them.
-pub record Sound (f : Function) (entered : Set) (blocks : List ℕ) : Type 0 where
+pub record Sound (f : Function) (entered : NumberSet) (blocks : List ℕ) : Type 0 where
   pub entered→∈ : {x : ℕ} → T (entered x) → x ∈ blocks
   pub ∈→entered : {x : ℕ} → x ∈ blocks → T (entered x)
   pub ordered : Pairwise (λ x y. ¬ Dominates f x y) blocks
@@ -48,7 +48,7 @@ untouched-sound =
     }
 
 -- a sound line has each block once: a block dominates itself
-pub sound-nodup : {f : Function} {entered : Set} {blocks : List ℕ} → Sound f entered blocks → List·Nodup blocks
+pub sound-nodup : {f : Function} {entered : NumberSet} {blocks : List ℕ} → Sound f entered blocks → List·Nodup blocks
 sound-nodup h = Pairwise·imp (λ x y undominated same. undominated (λ passed p. here same)) (h .ordered)
 
 -- To enter a new block, between those done and those on the path to it, keeps a line sound.

@@ -8,7 +8,7 @@ use mathlib.Core.Bool.{true, false, not}
 use mathlib.Core.List.{List, [], _∷_, map, reverse}
 use lib.ListN.{length, length-reverseAux, length-map}
 use lib.Dec.{T, T-not, ltb, ltb→lt, nltb→le}
-use Rattle.rules.specs.Lists.{has, Set}
+use Rattle.rules.specs.Lists.{has, NumberSet}
 use Rattle.rules.specs.Tree.{Function}
 use Rattle.rules.specs.Graph.{successors, reachable}
 use Rattle.rules.specs.Refusals.{numbersInFile}
@@ -194,7 +194,7 @@ pending (top ∷ below) = suc (2 * length (top .edges)) + pending below
 abbrev edgeWeight : Function → ℕ → ℕ
 edgeWeight f b = 2 * length (successors f b)
 
-abbrev untaken : Function → Set → ℕ
+abbrev untaken : Function → NumberSet → ℕ
 untaken f s = lack (edgeWeight f) (length (f .blocks)) s
 
 -- what is left in all
@@ -202,7 +202,7 @@ pub left : Function → Machine → ℕ
 left f m = pending (m .stack) + untaken f (m .stage .entered)
 
 -- a new block's edges were not taken before: it is of the file, or has none
-new-edges : (f : Function) (t : ℕ) (s : Set) → T (not (s t)) → edgeWeight f t + untaken f (insert t s) ≤ untaken f s
+new-edges : (f : Function) (t : ℕ) (s : NumberSet) → T (not (s t)) → edgeWeight f t + untaken f (insert t s) ≤ untaken f s
 new-edges f t s n = test-elim (ltb t (length (f .blocks))) inside outside
   where
     inside : T (ltb t (length (f .blocks))) → edgeWeight f t + untaken f (insert t s) ≤ untaken f s

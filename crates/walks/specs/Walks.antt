@@ -8,7 +8,7 @@ use mathlib.Core.Bool.{not}
 use mathlib.Core.List.{List, [], _∷_}
 use lib.ListN.{length}
 use lib.Dec.{T, ltb, ltb→lt, nltb→le}
-use Rattle.rules.specs.Lists.{foldl, has, Set, nothing}
+use Rattle.rules.specs.Lists.{foldl, has, NumberSet, nothing}
 use Rattle.rules.specs.Tree.{Function}
 use Rattle.rules.specs.Graph.{successors, Walk, enter}
 use Rattle.lists.specs.Tests.{test-elim, if-elim}
@@ -19,7 +19,7 @@ use Rattle.walks.specs.Paths.{successors-outside}
 
 -- how far a walk has come: the set of the blocks entered, and the list of those whose edges are done, last first
 pub record Stage : Type 0 where
-  pub entered : Set
+  pub entered : NumberSet
   pub done : List ℕ
 
 -- of a walk of the definition, which lists what it entered
