@@ -18,6 +18,7 @@ use Rattle.rules.specs.Rewriting.{rewritten}
 use Rattle.rules.specs.Services.{livenessVerdict, livenessAnswer, livenessIns, livenessOuts, listVerdict, listAnswer, listWords, recordsOf, rewritingVerdict, rewritingAnswer, rewritingOutput, finalRecords, programWrites}
 use Rattle.rules.specs.SheetFiles.{file, p1, p1-rewritten, p2, p3, p4, p5, p6, p6-rewritten, p7, p7-rewritten, p8, p9, p9-across, p10, p10-unreachable, freed-twice, spilled-result, spilled-result-rewritten, store-then-load, store-then-load-rewritten, parameter, parameter-rewritten, landing-words, landing-words-rewritten, plain-edges, plain-edges-rewritten, parameters, parameters-rewritten, results, results-rewritten, cold, cold-rewritten, copied, copied-rewritten, landings, landings-rewritten, unmarked, unmarked-rewritten, early, slotless, own-result, own-result-rewritten, undominated, undominated-rewritten, sizes, sizes-rewritten, unreachable, two-edges, many}
 use Rattle.rules.specs.declared.RewritingAnswer.{RewritingAnswer}
+use Rattle.rules.specs.declared.Verdict.{Verdict}
 use Rattle.rules.specs.declared.Verdict.the-variants as verdict
 
 -- what a sheet asks of its file
@@ -26,7 +27,7 @@ pub data Ask : Type 0 where
   answers : (pointer lent : ℕ) → Ask  -- rewriting's refusal, records, slots, landings, visits, pushes, unchanged
   refuses : Ask  -- rewriting's refusal, for pointer size 8 and room enough
   final : (pointer : ℕ) → Ask  -- the bytes of the final records
-  part : (records : ℕ) → Ask  -- the same by an answer that no call gave: unchanged, with so many records
+  part : Verdict → (records : ℕ) → Ask  -- the same by an answer that no call gave: unchanged, with so many records
   visits : Ask  -- the blocks visited, in order
   lists : (instruction lent : ℕ) → Ask  -- a list's refusal, its count, and the lent words
   liveness : (ins outs : ℕ) → Ask  -- liveness's refusal, visits and pushes with tables so long, and of each its length and sum
@@ -46,9 +47,9 @@ answer (answers pointer lent) s =
     refusalNumber (a .verdict) ∷ a .records ∷ a .slots ∷ a .landings ∷ a .visits ∷ a .pushes ∷ bit (a .unchanged) ∷ []
 answer refuses s = refusalNumber (rewritingAnswer s 8 room .verdict) ∷ []
 answer (final pointer) s = finalRecords (rewritingAnswer s pointer room) s (rewritingOutput s pointer room)
-answer (part n) s =
+answer (part v n) s =
     let given : RewritingAnswer =
-    record { verdict = verdict.Accepted; records = n; slots = 0; landings = 0; visits = 0; pushes = 0; unchanged = true } in
+    record { verdict = v; records = n; slots = 0; landings = 0; visits = 0; pushes = 0; unchanged = true } in
     finalRecords given s []
 answer visits s = reverse (process (functionIn s) .visited)
 answer (lists i lent) s = let a = listAnswer s i lent in refusalNumber (a .verdict) ∷ a .count ∷ listWords s i lent
@@ -259,9 +260,10 @@ sheets =
     ∷ record { asked = refuses; of = file (p1 ++ ((13, 0, 0, 0) ∷ [])); says = 4 ∷ [] }
     ∷ record { asked = refuses; of = file (p1 ++ ((14, 0, 0, 4) ∷ [])); says = 4 ∷ [] }
     ∷ record { asked = refuses; of = file (p1 ++ ((15, 0, 0, 0) ∷ [])); says = 4 ∷ [] }
-    -- final records by any answer: the first records x 16 bytes, none where the buffer is shorter
-    ∷ record { asked = part 2; of = file ((1, 4, 0, 0) ∷ (1, 4, 0, 0) ∷ (1, 4, 0, 0) ∷ []); says = file ((1, 4, 0, 0) ∷ (1, 4, 0, 0) ∷ []) }
-    ∷ record { asked = part 3; of = file ((1, 4, 0, 0) ∷ (1, 4, 0, 0) ∷ []); says = [] }
+    -- final records by any answer: the first records x 16 bytes, none where the buffer is shorter or for a refusal
+    ∷ record { asked = part verdict.Accepted 2; of = file ((1, 4, 0, 0) ∷ (1, 4, 0, 0) ∷ (1, 4, 0, 0) ∷ []); says = file ((1, 4, 0, 0) ∷ (1, 4, 0, 0) ∷ []) }
+    ∷ record { asked = part verdict.Accepted 3; of = file ((1, 4, 0, 0) ∷ (1, 4, 0, 0) ∷ []); says = [] }
+    ∷ record { asked = part verdict.TooShort 2; of = file ((1, 4, 0, 0) ∷ (1, 4, 0, 0) ∷ []); says = [] }
     -- the program writes the final records, or `refused n` and a line feed; 3 above 32,768 bytes
     ∷ record { asked = program; of = file p8; says = file p8 }
     ∷ record { asked = program; of = file p1; says = file p1-rewritten }
