@@ -85,9 +85,6 @@ noted-small t w i h small v = omega (arith, noted-at t w v h, small v, one-small
 times-more : (v : ℕ) (r : Record) (rs : List Record) → times v (r ∷ rs) ≡ one v (encode r) + times v rs
 times-more v r rs = go (eqb (kind r) 3) (eqb (kind r) 5) apart
   where
-    seconds : List Words → List ℕ
-    seconds ws = map (λ (w : Words). w .second) ws
-
     apart : T (eqb (kind r) 3) → T (eqb (kind r) 5) → ⊥
     apart a b = let e : 3 ≡ kind r = sym (eqb→eq (kind r) 3 a) in let f = eqb→eq (kind r) 5 b in omega arith
 
