@@ -2,52 +2,21 @@
 ghost use mathlib.Core.Path.{_≡_};
 ghost use mathlib.Core.Bool.{true};
 ghost use Prim.Native.Nat.{_+_, _<_, _≤_};
-ghost use lib.ListN.{getD};
-ghost use Rattle.rules.specs.Records.{encode, recordAt, recordCount, records};
+ghost use Rattle.rules.specs.Records.{recordAt, recordCount, records};
 ghost use Rattle.rules.specs.File.{ordered, functionIn};
-ghost use Rattle.rules.specs.Graph.{blockAt, sizeOf};
+ghost use Rattle.rules.specs.Graph.{blockAt};
 ghost use Rattle.rules.specs.Refusals.{fit};
-ghost use Rattle.rules.specs.declared.Record.the-variants.{Outside};
 ghost use Rattle.records.specs.Places.{rest};
 ghost use Rattle.records.specs.Parts.{argument};
-ghost use Rattle.records.specs.Values.{sizeIn};
 ghost use Rattle.checks.specs.Fitting.{argumentsFirst, parametersFirst, argumentFits, edgeFits, fitting};
 use crate::counts::one_if_same;
 use records::kind_of;
 use records::record_at;
+use records::values::size_of;
+use records::values::words_from;
 use records::words_of;
 use rules::RECORD_BYTES;
-use rules::Record;
 use rules::Words;
-
-// The words of the record at place i, those of a record outside the table beyond the end.
-fn words_from(s: &[u8], i: usize) -> Words
-    ensures { λ w. ⌜ w ≡ encode (getD (records (now (s .entry))) i Outside) ⌝ }
-{
-    let n = s.len() / RECORD_BYTES;
-    if i < n {
-        return words_of(record_at(s, i));
-    }
-    words_of(Record::Outside)
-}
-
-// The size that a value's words give, 0 for those of another record.
-fn size_in(w: Words) -> u32
-    ensures { λ r. ⌜ r ≡ sizeIn w ⌝ }
-{
-    if w.kind == 1 {
-        return w.second;
-    }
-    0
-}
-
-// The size of value v, 0 where the file has no such value.
-pub fn size_of(s: &[u8], v: u32) -> u32
-    requires { ⌜ ordered 0 (records (now s)) ≡ true ⌝ }
-    ensures { λ r. ⌜ r ≡ sizeOf (functionIn (now (s .entry))) v ⌝ }
-{
-    size_in(words_from(s, v as usize))
-}
 
 // Whether an edge argument fits a parameter.
 fn argument_fits(s: &[u8], a: Words, p: Words) -> bool

@@ -1,4 +1,4 @@
--- Filling the block table: the places still to be noted, and the number of records behind them.
+-- Filling a table of places: those still to be noted, and the number of records behind them.
 use Prim.Native.Nat.{ℕ, suc, _+_, _<_}
 use mathlib.Core.Path.{_≡_, sym, ap, ap₂, _∙_}
 use mathlib.Core.Bool.{Bool, true, false}
@@ -9,10 +9,10 @@ use lib.ListN.{length}
 use lib.Seq.{sets}
 use lib.Dec.{eqb}
 use Rattle.rules.specs.Records.{kind, recordAt, recordCount}
-use Rattle.lists.specs.Tests.{T-ext, eqb-swap}
+use Rattle.lists.specs.Tests.{eqb-same}
 use Rattle.records.specs.Places.{rest, rest-next, rest-all, restBy-done}
 use Rattle.graph.specs.Sections.{placeIf, places}
-use Rattle.graph.specs.Blocks.{blockPlaces, blockTable}
+use Rattle.graph.specs.Placed.{placesOf, placeTable}
 
 -- one place noted, or none
 sets-one :
@@ -26,45 +26,42 @@ length-one : (o : Bool) (i : ℕ) (ps : List ℕ) → length (placeIf o i ps) �
 length-one true i ps = omega arith
 length-one false i ps = omega arith
 
-eqb-same : (m n : ℕ) → eqb m n ≡ eqb n m
-eqb-same m n = T-ext (eqb m n) (eqb n m) (eqb-swap m n) (eqb-swap n m)
-
-module _ (s : List ℕ) where
+module _ (s : List ℕ) (wanted : ℕ) where
   -- the places still to be noted at place i
   abbrev pub placesFrom : ℕ → List ℕ
-  placesFrom i = places (eqb 2) i (rest s i)
+  placesFrom i = places (eqb wanted) i (rest s i)
 
-  pub placesFrom-all : placesFrom 0 ≡ blockPlaces s
-  unfolding blockPlaces
-  placesFrom-all = ap (places (eqb 2) 0) (rest-all s)
+  pub placesFrom-all : placesFrom 0 ≡ placesOf wanted s
+  unfolding placesOf
+  placesFrom-all = ap (places (eqb wanted) 0) (rest-all s)
 
   pub placesFrom-done : (i : ℕ) → i ≡ recordCount s → placesFrom i ≡ []
-  placesFrom-done i e = ap (λ rs. places (eqb 2) i rs) (ap (rest s) e ∙ restBy-done (λ t. recordAt t 0) s)
+  placesFrom-done i e = ap (λ rs. places (eqb wanted) i rs) (ap (rest s) e ∙ restBy-done (λ t. recordAt t 0) s)
 
   -- the table when all is noted, from what is noted so far
   abbrev pub filled : List ℕ → ℕ → ℕ → List ℕ
   filled table found i = sets table found (placesFrom i ++ (recordCount s ∷ []))
 
-  pub filled-all : (table : List ℕ) → filled table 0 0 ≡ sets table 0 (blockTable s)
-  unfolding blockTable
+  pub filled-all : (table : List ℕ) → filled table 0 0 ≡ sets table 0 (placeTable wanted s)
+  unfolding placeTable
   filled-all table = ap (λ (ps : List ℕ). sets table 0 (ps ++ (recordCount s ∷ []))) placesFrom-all
 
   pub filled-done : (table : List ℕ) (found i : ℕ) → i ≡ recordCount s → filled table found i ≡ sets table found (recordCount s ∷ [])
   filled-done table found i e = ap (λ (ps : List ℕ). sets table found (ps ++ (recordCount s ∷ []))) (placesFrom-done i e)
 
   module _ (i k : ℕ) (l : i < recordCount s) (e : k ≡ kind (recordAt s i)) where
-    next : placesFrom i ≡ placeIf (eqb k 2) i (placesFrom (i + 1))
+    next : placesFrom i ≡ placeIf (eqb k wanted) i (placesFrom (i + 1))
     next =
-        ap (places (eqb 2) i) (rest-next s i l)
-        ∙ ap₂ (λ (o : Bool) (j : ℕ). placeIf o i (places (eqb 2) j (rest s (i + 1))))
-        (eqb-same 2 (kind (recordAt s i)) ∙ ap (λ (j : ℕ). eqb j 2) (sym e)) (sym (add-one i))
+        ap (places (eqb wanted) i) (rest-next s i l)
+        ∙ ap₂ (λ (o : Bool) (j : ℕ). placeIf o i (places (eqb wanted) j (rest s (i + 1))))
+        (eqb-same wanted (kind (recordAt s i)) ∙ ap (λ (j : ℕ). eqb j wanted) (sym e)) (sym (add-one i))
 
     pub filled-more :
         (table : List ℕ) (found : ℕ)
-        → filled table found i ≡ filled (sets table found (placeIf (eqb k 2) i [])) (found + length (placeIf (eqb k 2) i [])) (i + 1)
+        → filled table found i ≡ filled (sets table found (placeIf (eqb k wanted) i [])) (found + length (placeIf (eqb k wanted) i [])) (i + 1)
     filled-more table found =
         ap (λ (ps : List ℕ). sets table found (ps ++ (recordCount s ∷ []))) next
-        ∙ sets-one (eqb k 2) table found i (placesFrom (i + 1)) (recordCount s ∷ [])
+        ∙ sets-one (eqb k wanted) table found i (placesFrom (i + 1)) (recordCount s ∷ [])
 
-    pub left-more : length (placesFrom i) ≡ length (placeIf (eqb k 2) i []) + length (placesFrom (i + 1))
-    left-more = ap length next ∙ length-one (eqb k 2) i (placesFrom (i + 1))
+    pub left-more : length (placesFrom i) ≡ length (placeIf (eqb k wanted) i []) + length (placesFrom (i + 1))
+    left-more = ap length next ∙ length-one (eqb k wanted) i (placesFrom (i + 1))

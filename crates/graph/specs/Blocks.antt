@@ -11,22 +11,22 @@ use Rattle.rules.specs.Records.{recordAt, recordCount, records}
 use Rattle.rules.specs.File.{ordered, Section, Cut, cut, named, instructionOf, opensItem, blockOf, function, functionIn}
 use Rattle.rules.specs.Graph.{blockAt, instructionsOf, edgesOut, successors}
 use Rattle.rules.specs.declared.Record.{Record}
+use Rattle.rules.specs.Lists.{concatMap}
 use Rattle.lists.specs.Tests.{passes-at}
 use Rattle.lists.specs.Maps.{map-concatMap}
 use Rattle.lists.specs.Members.{all→∈, getD-∈}
 use Rattle.records.specs.Kinds.{kinds-weaken}
 use Rattle.records.specs.Parts.{blockBody, inBlock, in-block, isBlock, file-blocks, isBlock-body, block-instructions-are, block-picked, targets-picked}
 use Rattle.graph.specs.Between.{between, between-all, length-between}
-use Rattle.graph.specs.Sections.{agree, places, sectionsAt, cut-between, length-sectionsAt, section-at, table-bounds, table-ascends, places-same}
+use Rattle.graph.specs.Sections.{agree, places, sectionsAt, cut-between, length-sectionsAt, section-at, places-same}
+use Rattle.graph.specs.Placed.{placesOf, placeTable, length-placeTable, placeTable-le, placeTable-less}
 
--- the places of a file's block records
-unfoldable pub blockPlaces : List ℕ → List ℕ
-blockPlaces s = places (eqb 2) 0 (records s)
+-- the places of a file's block records, and the block table
+abbrev pub blockPlaces : List ℕ → List ℕ
+blockPlaces s = placesOf 2 s
 
--- the block table
-unfoldable pub blockTable : List ℕ → List ℕ
-unfolding blockPlaces
-blockTable s = blockPlaces s ++ (recordCount s ∷ [])
+abbrev pub blockTable : List ℕ → List ℕ
+blockTable s = placeTable 2 s
 
 -- where block b starts
 abbrev pub placeOf : List ℕ → ℕ → ℕ
@@ -48,7 +48,7 @@ getD-map-in g (x ∷ l) (suc i) d e h = getD-map-in g l i d e (omega arith)
 module _ (s : List ℕ) where
   -- the sections of the file's blocks
   block-sections : cut (eqb 2) (records s) .sections ≡ sectionsAt s (recordCount s) (blockPlaces s)
-  unfolding blockPlaces
+  unfolding placesOf
   block-sections =
       ap (λ (rs : List Record). cut (eqb 2) rs .sections) (sym (between-all s))
       ∙ ap (λ (c : Cut). c .sections) (cut-between s (eqb 2) 0 (recordCount s) (omega arith) (omega arith))
@@ -62,26 +62,17 @@ module _ (s : List ℕ) where
       ∙ length-sectionsAt s (recordCount s) (blockPlaces s))
 
   pub length-blockTable : length (blockTable s) ≡ suc (length (functionIn s .blocks))
-  unfolding blockTable
-  length-blockTable = length-append (blockPlaces s) (recordCount s ∷ []) ∙ (omega (arith, length-blockPlaces))
-
-  -- a file's records are as many as they are
-  length-records : 0 + length (records s) ≡ recordCount s
-  length-records = omega (arith, ap length (between-all s), length-between s 0 (recordCount s) (omega arith))
+  length-blockTable = omega (arith, length-placeTable 2 s, length-blockPlaces)
 
   -- Each block starts in the file, before the next one; and the last ends with it.
   pub place-le : (b : ℕ) → b ≤ length (functionIn s .blocks) → placeOf s b ≤ recordCount s
-  unfolding blockTable blockPlaces
-  place-le b l =
-      table-bounds (eqb 2) 0 (recordCount s) (records s) length-records b (omega (arith, length-blockPlaces)) .1
+  place-le b l = placeTable-le 2 s b (omega (arith, length-blockPlaces))
 
   pub place-less : (b : ℕ) → b < length (functionIn s .blocks) → placeOf s b < placeOf s (suc b)
-  unfolding blockTable blockPlaces
-  place-less b l =
-      table-ascends (eqb 2) 0 (recordCount s) (records s) length-records b (omega (arith, length-blockPlaces))
+  place-less b l = placeTable-less 2 s b (omega (arith, length-blockPlaces))
 
   section-of : (b : ℕ) (none : Section) → b < length (functionIn s .blocks) → getD (cut (eqb 2) (records s) .sections) b none ≡ sectionOf s b
-  unfolding blockTable
+  unfolding placeTable
   section-of b none l =
       ap (λ (ss : List Section). getD ss b none) block-sections
       ∙ section-at s (recordCount s) (blockPlaces s) b none (omega (arith, length-blockPlaces))
@@ -131,3 +122,9 @@ module _ (s : List ℕ) where
         ap (λ (x : Block). map (λ e. e .target) (edgesOut x)) (blockAt-by-place b l)
         ∙ map-concatMap (λ (e : Edge). e .target) (λ (i : Instruction). i .edges) (instructionsOf (blockOf (sectionOf s b)))
         ∙ block-picked 7 (λ w. w .second) (λ i. map (λ e. e .target) (i .edges)) (λ t _. targets-picked (t .body)) tt tt (sectionOf s b) block-body
+
+    -- What its contexts name, in file order, is what the records of kind 9 there name.
+    pub contexts-by-place : concatMap (λ i. i .contexts) (instructionsOf (blockAt (functionIn s) b)) ≡ named 9 (bodyAt s b)
+    contexts-by-place =
+        ap (λ (x : Block). concatMap (λ i. i .contexts) (instructionsOf x)) (blockAt-by-place b l)
+        ∙ block-picked 9 (λ w. w .second) (λ i. i .contexts) (λ t _. refl) tt tt (sectionOf s b) block-body

@@ -1,6 +1,7 @@
 pub mod Zeros
 pub mod Between
 pub mod Sections
+pub mod Placed
 pub mod Blocks
 pub mod NextEdge
 pub mod Tables

@@ -83,6 +83,9 @@ neqb→ne m n h e = T-not (eqb m n) h (eq→eqb e)
 pub eqb-swap : (m n : ℕ) → T (eqb m n) → T (eqb n m)
 eqb-swap m n t = rw (eqb→eq m n t) (eqb-refl n)
 
+pub eqb-same : (m n : ℕ) → eqb m n ≡ eqb n m
+eqb-same m n = T-ext (eqb m n) (eqb n m) (eqb-swap m n) (eqb-swap n m)
+
 -- two numbers differ where one passes a test that the other does not
 pub differ : (p : ℕ → Bool) (j k : ℕ) → T (p j) → T (not (p k)) → T (not (eqb j k))
 differ p j k h n = not-T (eqb j k) (λ t. T-not (p k) n (rw (eqb→eq j k t) at h))

@@ -1,14 +1,15 @@
 -- Lists of records by their kinds: what picking a kind out, and cutting in front of a kind, give on a list put together.
 use Prim.Native.Nat.{ℕ}
-use mathlib.Core.Path.{_≡_, refl, sym, ap, _∙_}
+use mathlib.Core.Path.{_≡_, refl, sym, ap, ap₂, _∙_}
 use mathlib.Core.Bool.{Bool, true, false, not}
 use mathlib.Core.List.{List, [], _∷_, _++_, map, append-nil}
 use lib.Dec.{T, eqb, ltb}
 use Rattle.rules.specs.Lists.{all, concatMap}
 use Rattle.rules.specs.Records.{encode, kind}
 use Rattle.rules.specs.declared.Words.{Words}
-use Rattle.lists.specs.Tests.{and-intro, and-left, and-right, chosen, left-out}
+use Rattle.lists.specs.Tests.{and-intro, and-left, and-right, T-and, chosen, left-out}
 use Rattle.lists.specs.Maps.{all-append, all-weaken}
+use Rattle.lists.specs.Truths.{agree, agree-same}
 use Rattle.rules.specs.File.{Cut, cut, ofKind}
 use Rattle.rules.specs.declared.EdgeArgument.{EdgeArgument}
 use Rattle.rules.specs.declared.EdgeArgument.the-variants as passes
@@ -86,6 +87,16 @@ cut-front opens (x ∷ xs) rs h =
 pub cut-closed : (opens : ℕ → Bool) (xs : List Record) → Kinds (λ j. not (opens j)) xs → cut opens xs ≡ record { front = xs; sections = [] }
 cut-closed opens xs h =
     ap (cut opens) (sym (append-nil xs)) ∙ cut-front opens xs [] h ∙ ap (λ (t : List Record). record { front = t; sections = [] }) (append-nil xs)
+
+-- two tests that agree on each record's kind cut alike
+pub cut-same : (opens other : ℕ → Bool) (rs : List Record) → Kinds (λ j. agree (opens j) (other j)) rs → cut opens rs ≡ cut other rs
+cut-same opens other [] h = refl
+cut-same opens other (r ∷ rs) h =
+    let both = T-and (agree (opens (kind r)) (other (kind r))) (all (λ x. agree (opens (kind x)) (other (kind x))) rs) h in
+    ap₂ (λ (o : Bool) (c : Cut). elim o as (λ _. Cut) [
+      | true ↦ record { front = []; sections = record { head = r; body = c .front } ∷ c .sections }
+      | false ↦ record { front = r ∷ c .front; sections = c .sections }
+    ]) (agree-same (opens (kind r)) (other (kind r)) (both .0)) (cut-same opens other rs (both .1))
 
 -- a record that opens a part, with a body that opens nothing, is a section
 pub cut-section : (opens : ℕ → Bool) (h : Record) (body rs : List Record) → T (opens (kind h)) → Kinds (λ j. not (opens j)) body

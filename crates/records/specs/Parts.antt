@@ -1,9 +1,9 @@
 -- The parts of a file's function, each in file order, are the file's records of their kind, where the file is in order.
 use Prim.Native.Nat.{ℕ}
-use mathlib.Core.Path.{_≡_, refl, sym, ap, _∙_}
+use mathlib.Core.Path.{_≡_, refl, sym, ap, ap₂, _∙_}
 use mathlib.Core.Bool.{Bool, true, false, not, _&&_, _||_}
 use mathlib.Core.List.{List, [], _∷_, _++_, map}
-use lib.Dec.{T, eqb, eqb→eq}
+use lib.Dec.{T, T-not, eqb, eqb→eq}
 use Rattle.rules.specs.Lists.{all, concatMap, has}
 use Rattle.rules.specs.Tree.{Edge, Instruction, Block}
 use Rattle.rules.specs.Records.{encode, kind, edgeArgument}
@@ -13,9 +13,11 @@ use Rattle.rules.specs.Graph.{instructionsAmong, instructionsOf}
 use Rattle.rules.specs.Refusals.{allInstructions, allEdges}
 use Rattle.rules.specs.declared.EdgeArgument.{EdgeArgument}
 use Rattle.rules.specs.declared.Record.{Record}
-use Rattle.lists.specs.Tests.{and-left, and-right, or-then, is-true, eqb-swap, differ, chosen, left-out, passes-at}
+use Rattle.rules.specs.declared.Record.the-variants as record′
+use Rattle.lists.specs.Tests.{and-left, and-right, T-and, or-then, is-true, eqb-swap, differ, chosen, left-out, passes-at}
 use Rattle.lists.specs.Maps.{map-map, concatMap-map, map-concatMap, concatMap-concatMap, concatMap-where, all-weaken, all-and}
-use Rattle.records.specs.Kinds.{Kinds, kinds-weaken, ofKind-append, ofKind-skip}
+use Rattle.lists.specs.Truths.{agree}
+use Rattle.records.specs.Kinds.{Kinds, kind-edgeArgument, kinds-weaken, ofKind-append, ofKind-skip, cut-same}
 use Rattle.records.specs.InOrder.{chain, ordered-chain, whole, Sections, cut-keeps, cut-joins, opened, cut-opened, chained, cut-chained, cut-kinds, keptBy, chain-good}
 
 -- RECORDS OF A KIND, BY SECTIONS. Where no section is opened by the kind, and the front has none.
@@ -139,6 +141,15 @@ instructions-are (t ∷ ts) h =
 pub block-instructions-are : (s : Section) → blockBody (s .body) → instructionsOf (blockOf s) ≡ map instructionOf (cut opensItem (s .body) .sections)
 block-instructions-are s h = instructions-are (cut opensItem (s .body) .sections) (block-instructions (s .body) h)
 
+-- and the records of kind 4 open them
+pub instruction-heads : (body : List Record) → blockBody body → map (λ t. encode (t .head)) (cut opensItem body .sections) ≡ ofKind 4 body
+unfolding agree
+instruction-heads body h =
+    ap (λ (c : Cut). map (λ t. encode (t .head)) (c .sections))
+    (cut-same opensItem (eqb 4) body
+    (kinds-weaken inBlock (λ j. agree (opensItem j) (eqb 4 j)) (passes-at (λ j. agree (opensItem j) (eqb 4 j)) (3 ∷ 4 ∷ 5 ∷ 6 ∷ 7 ∷ 8 ∷ 9 ∷ []) tt) body (in-block body h)))
+    ∙ cut-heads 4 body
+
 -- PARTS, IN FILE ORDER. What the instructions of a block have by records of a kind in their bodies, and the same of all
 -- blocks of a file.
 pub block-picked : {B : Type 0} (k : ℕ) (read : Words → B) (part : Instruction → List B)
@@ -188,6 +199,37 @@ module _ {B : Type 0} (rs : List Record) (h : T (ordered 0 rs)) (k : ℕ) (read 
       concatMap-concatMap part instructionsOf (function rs .blocks)
       ∙ blocks-picked (λ b. concatMap part (instructionsOf b)) (block-picked k read part p o n)
 
+-- the words of an instruction's own record
+abbrev pub headWords : Instruction → Words
+headWords i = encode (record′.Instruction (i .safepoint) (i .terminator) (i .tag))
+
+head-words : (r : Record) (body : List Record) → T (eqb (kind r) 4) → headWords (instructionOf (record { head = r; body = body })) ≡ encode r
+head-words (record′.Instruction true true tag) body h = refl
+head-words (record′.Instruction true false tag) body h = refl
+head-words (record′.Instruction false true tag) body h = refl
+head-words (record′.Instruction false false tag) body h = refl
+head-words (record′.Value _ _) body h = absurd h
+head-words (record′.Block _ _) body h = absurd h
+head-words (record′.Parameter _) body h = absurd h
+head-words (record′.Result _) body h = absurd h
+head-words (record′.Argument _) body h = absurd h
+head-words (record′.Edge _) body h = absurd h
+head-words (record′.EdgeArgument x) body h = absurd (T-not (eqb (kind (record′.EdgeArgument x)) 4) (kind-edgeArgument (λ j. not (eqb j 4)) x tt) h)
+head-words (record′.Context _) body h = absurd h
+head-words (record′.Slot _) body h = absurd h
+head-words (record′.MapEntry _ _) body h = absurd h
+head-words (record′.SlotAddress _ _) body h = absurd h
+head-words (record′.Store _ _) body h = absurd h
+head-words (record′.Load _ _ _) body h = absurd h
+head-words record′.Jump body h = absurd h
+head-words record′.Outside body h = absurd h
+
+heads-words : (ts : List Section) → Sections isInstruction ts → map (λ t. headWords (instructionOf t)) ts ≡ map (λ t. encode (t .head)) ts
+heads-words [] h = refl
+heads-words (t ∷ ts) h =
+    let both = T-and (isInstruction t) (all isInstruction ts) h in
+    ap₂ (λ (w : Words) (ws : List Words). w ∷ ws) (head-words (t .head) (t .body) (head-instruction t (both .0))) (heads-words ts (both .1))
+
 abbrev pub second : Words → ℕ
 second w = w .second
 
@@ -210,6 +252,21 @@ passed-picked t h =
 module _ (rs : List Record) (h : T (ordered 0 rs)) where
   pub parameters-in-order : concatMap (λ b. b .parameters) (function rs .blocks) ≡ named 3 rs
   parameters-in-order = blocks-picked rs h 3 second tt tt (λ b. b .parameters) (λ s t. refl)
+
+  -- an instruction by its own record
+  pub instructions-in-order : map headWords (allInstructions (function rs)) ≡ ofKind 4 rs
+  instructions-in-order =
+      map-concatMap headWords instructionsOf (function rs .blocks)
+      ∙ blocks-picked rs h 4 (λ w. w) tt tt (λ b. map headWords (instructionsOf b))
+      (λ s t.
+      let ts = cut opensItem (s .body) .sections in
+      ap (map headWords) (block-instructions-are s t) ∙ map-map headWords instructionOf ts ∙ heads-words ts (block-instructions (s .body) t)
+      ∙ instruction-heads (s .body) t ∙ sym (map-same (ofKind 4 (s .body))))
+      ∙ map-same (ofKind 4 rs)
+    where
+      map-same : (ws : List Words) → map (λ w. w) ws ≡ ws
+      map-same [] = refl
+      map-same (w ∷ ws) = ap (λ x. w ∷ x) (map-same ws)
 
   pub results-in-order : concatMap (λ i. i .results) (allInstructions (function rs)) ≡ named 5 rs
   results-in-order = instructions-picked rs h 5 second tt tt (λ i. i .results) (λ t u. refl) tt tt

@@ -43,6 +43,17 @@ size-in r = go (eqb (kind r) 1)
     go true = refl
     go false = refl
 
+-- the mark that they give
+abbrev pub markIn : Words → Bool
+markIn w = elim (eqb (w .kind) 1) [ true ↦ eqb (w .third) 1 | false ↦ false ]
+
+mark-in : (r : Record) → valueIn r .marked ≡ markIn (encode r)
+mark-in r = go (eqb (kind r) 1)
+  where
+    go : (b : Bool) → elim b as (λ _. Value) [ true ↦ valueOf (encode r) | false ↦ noValue ] .marked ≡ elim b [ true ↦ eqb (encode r .third) 1 | false ↦ false ]
+    go true = refl
+    go false = refl
+
 no-value : (rs : List Record) → Kinds (λ j. not (eqb j 1)) rs → (v : ℕ) → valueIn (getD rs v record′.Outside) ≡ noValue
 no-value [] h v = refl
 no-value (r ∷ rs) h zero = left-out (eqb (kind r) 1) (valueOf (encode r)) noValue (and-left (not (eqb (kind r) 1)) (all (λ x. not (eqb (kind x) 1)) rs) h)
@@ -183,6 +194,12 @@ module _ (s : List ℕ) (h : T (ordered 0 (records s))) where
   unfolding function
   size-in-place v =
       ap (λ x. x .size) (values-at 0 (records s) tt (ordered-chain 0 (records s) h) v) ∙ size-in (getD (records s) v record′.Outside)
+
+  -- and so is its mark
+  pub mark-in-place : (v : ℕ) → isMarked (functionIn s) v ≡ markIn (encode (getD (records s) v record′.Outside))
+  unfolding function
+  mark-in-place v =
+      ap (λ x. x .marked) (values-at 0 (records s) tt (ordered-chain 0 (records s) h) v) ∙ mark-in (getD (records s) v record′.Outside)
 
   pub value-in-place : (v : ℕ) → v < recordCount s → valueAt (functionIn s) v ≡ valueIn (recordAt s v)
   unfolding function

@@ -15,6 +15,8 @@ use rules::RECORD_BYTES;
 use rules::Record;
 use rules::Words;
 
+pub mod values;
+
 fn wide(x: u8) -> u32
     ensures { λ r. ⌜ (r ≡ x) × (r < 256) ⌝ }
 {

@@ -1,10 +1,10 @@
--- `checks::fitting::words_from` meets its contract.
+-- `records::values::words_from` meets its contract.
 use Rattle.records.specs.Values.{record-there, record-beyond}
 use Rattle.rules.specs.Records.{encode}
 use mathlib.Core.Path.{sym, ap, _∙_}
 use borrow.Author.Needs.{needs}
-use Rattle.checks.proofs.fitting.words_from.Statement.{statement}
-use Rattle.checks.proofs.fitting.words_from.Tie as tie
+use Rattle.records.proofs.values.words_from.Statement.{statement}
+use Rattle.records.proofs.values.words_from.Tie as tie
 
 record-at-requires : tie.Need-record-at-requires
 record-at-requires c κs = search needs

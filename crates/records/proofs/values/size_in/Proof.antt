@@ -1,9 +1,9 @@
--- `checks::fitting::size_in` meets its contract.
+-- `records::values::size_in` meets its contract.
 use mathlib.Core.Bool.{true, false}
 use mathlib.Core.Path.{sym, ap}
 use borrow.Author.Tests.{eq-eqb, ne-eqb}
-use Rattle.checks.proofs.fitting.size_in.Statement.{statement}
-use Rattle.checks.proofs.fitting.size_in.Tie as tie
+use Rattle.records.proofs.values.size_in.Statement.{statement}
+use Rattle.records.proofs.values.size_in.Tie as tie
 
 returns : tie.Need-returns
 returns c = let w = c .before .before .args .w in sym (ap (λ b. elim b [ true ↦ w .second | false ↦ 0 ]) (eq-eqb (w .kind) 1 (c .if1 .taken)))

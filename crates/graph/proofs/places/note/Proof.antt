@@ -1,9 +1,9 @@
--- `graph::blocks::note` meets its contract.
+-- `graph::places::note` meets its contract.
 use native.Mathlib.Omega.{arith}
 use mathlib.Core.Path.{refl}
 use borrow.Author.Needs.{needs}
-use Rattle.graph.proofs.blocks.note.Statement.{statement}
-use Rattle.graph.proofs.blocks.note.Tie as tie
+use Rattle.graph.proofs.places.note.Statement.{statement}
+use Rattle.graph.proofs.places.note.Tie as tie
 
 mul-places : tie.Need-mul-places
 mul-places c = search needs

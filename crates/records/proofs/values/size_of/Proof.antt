@@ -1,10 +1,10 @@
--- `checks::fitting::size_of` meets its contract.
+-- `records::values::size_of` meets its contract.
 use Rattle.records.specs.Values.{sizeIn, size-in-place}
 use mathlib.Core.Path.{sym, ap, subst, _∙_}
 use lib.Dec.{T}
 use borrow.Author.Needs.{needs}
-use Rattle.checks.proofs.fitting.size_of.Statement.{statement}
-use Rattle.checks.proofs.fitting.size_of.Tie as tie
+use Rattle.records.proofs.values.size_of.Statement.{statement}
+use Rattle.records.proofs.values.size_of.Tie as tie
 
 words-from-requires : tie.Need-words-from-requires
 words-from-requires c κs = search needs
