@@ -1,8 +1,8 @@
 // Refusals 3 to 7: each test of document 01 as a function.
-mod counts;
-mod definitions;
-mod fitting;
-mod numbers;
-mod order;
-mod soundness;
-mod standing;
+pub mod counts;
+pub mod definitions;
+pub mod fitting;
+pub mod numbers;
+pub mod order;
+pub mod soundness;
+pub mod standing;

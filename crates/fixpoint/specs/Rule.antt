@@ -13,6 +13,7 @@ use Rattle.rules.specs.Graph.{blockAt, isMarked, instructionsOf, valuesPassed, 
 use Rattle.rules.specs.Liveness.{across, before, beforeAll, through, joined}
 use Rattle.lists.specs.Tests.{test-elim, and-intro, and-left, and-right, or-elim, or-left, or-right}
 use Rattle.lists.specs.Sets.{Within}
+use Rattle.lists.specs.Anys.{or-assoc}
 use Rattle.lists.specs.Members.{has→∈}
 use Rattle.fixpoint.specs.Finding.{any-elim, keep-passes}
 
@@ -61,10 +62,6 @@ beforeAll-split f (i ∷ is) out v =
     let passed = has v (keep (isMarked f) (valuesPassed i)) in
     ap (λ x. added || (not removed && (passed || x))) (beforeAll-split f is out v)
     ∙ split-step added removed passed (beforeAll f is nothing v) (out v) (results is v)
-
-or-assoc : (a b c : Bool) → a || (b || c) ≡ (a || b) || c
-or-assoc true b c = refl
-or-assoc false b c = refl
 
 -- What two lists of instructions use: what the first uses, and of what the second uses what the first does not define.
 pub uses-append :

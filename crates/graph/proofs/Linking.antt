@@ -20,7 +20,7 @@ use Rattle.graph.specs.Between.{between}
 use Rattle.graph.specs.NextEdge.{edgeFrom, targetsFrom, edgeFrom-targets, edgeFrom-behind}
 use Rattle.graph.specs.Links.{Links, links, linkEdge, linkBlock, linked, LentLinks, Walked, Linkable}
 use Rattle.graph.specs.LinkLaws.{edge-linkable, edges-used}
-use Rattle.graph.proofs.Turning.{some, places-long, end-le, start-less, edges-all}
+use Rattle.graph.specs.ByTable.{some, places-long, end-le, start-less, edges-all, block-listed, block-at-index, index-long}
 
 -- EDGES. What is left to link, from the edge found on, leads to the end.
 pub record Linking (s : List ℕ) (q p : ℕ) (end l : Links) (e : NextEdge) : Type 0 where
@@ -135,14 +135,14 @@ module _ (s places order : List ℕ) (count : ℕ) (w : Walked s places order co
       abbrev b : ℕ
       b = getD order j 0
 
+      less : j < count
+      less = omega (arith, w .counted, g .below)
+
       b-is : b ≡ getD (reachable f) j 0
-      b-is = ap (λ (xs : List ℕ). getD xs j 0) (w .listed) ∙ getD-padded (length order) (reachable f) j
+      b-is = block-at-index w j
 
       b-in-file : b < length (f .blocks)
-      b-in-file =
-          let k = g .below in
-          rw b-is
-          (reachable-in-file f (w .given .inFile) (some s places (w .given)) (getD-∈ (reachable f) j 0 (omega arith)))
+      b-in-file = block-listed w j less
 
       -- the blocks of lower indices, and it
       split : take i (reachable f) ≡ take j (reachable f) ++ (b ∷ [])
@@ -175,9 +175,8 @@ module _ (s places order : List ℕ) (count : ℕ) (w : Walked s places order co
 
       pub indexed : Indexed s places order l j
       indexed =
-          let k = g .below in
           record {
-            below = omega (arith, ap length (w .listed), length-padded-le (length order) (reachable f));
+            below = index-long w j less;
             listed = omega (arith, b-in-file, places-long s places (w .given));
             starts = start-less s places (w .given) b b-in-file;
             ends = end-le s places (w .given) b b-in-file;

@@ -25,44 +25,10 @@ use Rattle.graph.specs.Between.{between}
 use Rattle.graph.specs.Blocks.{blockTable, placeOf, length-blockTable, place-le, place-less, successors-by-place}
 use Rattle.graph.specs.NextEdge.{Taken, edgeFrom, edgeFrom-taken}
 use Rattle.graph.specs.Tables.{Tables, finishTop, enterBlock, lookFrom, takeEdge, turnBy, turnOn, down, frameOf, frameAt, stageOf, machineOf, Given, Room, Clear, Ready}
+use Rattle.graph.specs.ByTable.{some, places-long, end-le, start-less, edges-all}
 use Rattle.graph.proofs.Marks.{length-down}
 use Rattle.graph.proofs.Tags.{Tagged, tagged-more, tagged-other}
 use Rattle.graph.proofs.Steps.{stack-top, step-top, finish-step, skip-step, enter-step}
-
--- THE FILE, by its block table
-module _ (s places : List ℕ) (g : Given s places) where
-  -- there is a block
-  pub some : 0 < length (functionIn s .blocks)
-  some = blocks-some (records s) (g .inOrder)
-
-  -- the table has a place for each block, and one behind
-  pub places-long : length (functionIn s .blocks) < length places
-  places-long = omega (arith, ap length (g .table), length-padded-le (length places) (blockTable s), length-blockTable s)
-
-  pub place-at : (b : ℕ) → getD places b 0 ≡ placeOf s b
-  place-at b = ap (λ (p : List ℕ). getD p b 0) (g .table) ∙ getD-padded (length places) (blockTable s) b
-
-  module _ (b : ℕ) (l : b < length (functionIn s .blocks)) where
-    -- a block ends in the file
-    pub end-le : getD places (b + 1) 0 ≤ recordCount s
-    end-le =
-        let e : b + 1 ≡ suc b = omega arith in
-        let h = place-le s (suc b) l in
-        omega (arith, place-at (b + 1), ap (placeOf s) e)
-
-    -- behind where it starts
-    pub start-less : getD places b 0 + 1 ≤ getD places (b + 1) 0
-    start-less =
-        let e : b + 1 ≡ suc b = omega arith in
-        let h = place-less s b l in
-        omega (arith, place-at b, place-at (b + 1), ap (placeOf s) e)
-
-    -- and all its edges stand there
-    pub edges-all : named 7 (between s (getD places b 0 + 1) (getD places (b + 1) 0)) ≡ successors (functionIn s) b
-    edges-all =
-        let first : getD places b 0 + 1 ≡ suc (placeOf s b) = omega (arith, place-at b) in
-        let last : getD places (b + 1) 0 ≡ placeOf s (suc b) = place-at (b + 1) ∙ ap (placeOf s) (add-one b) in
-        rw (first, last) (sym (successors-by-place s (g .inOrder) b l))
 
 -- blocks open and blocks done are no more than there are
 pub size-le :

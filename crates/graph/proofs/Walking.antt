@@ -17,7 +17,8 @@ use Rattle.graph.specs.Zeros.{zeros-at, padded-ext}
 use Rattle.graph.specs.Tables.{Tables, tables, enterBlock, turnOn, down, frameOf, frameAt, stageOf, machineOf, tagFrom, indexTag, indexTable, indexTable-at, length-indexTable, Ready, Lent, Numbered}
 use Rattle.graph.proofs.Marks.{length-down, mark-set}
 use Rattle.graph.proofs.Tags.{tag-none}
-use Rattle.graph.proofs.Turning.{some, start-less, edges-all, turned}
+use Rattle.graph.specs.ByTable.{some, start-less, edges-all}
+use Rattle.graph.proofs.Turning.{turned}
 
 -- tables are as long as they were
 pub record Sized (lent t : Tables) : Type 0 where

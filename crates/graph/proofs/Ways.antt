@@ -13,7 +13,8 @@ use Rattle.graph.specs.Between.{between}
 use Rattle.graph.specs.NextEdge.{Taken, edgeFrom}
 use Rattle.graph.specs.Tables.{Tables, finishTop, enterBlock, lookFrom, takeEdge, turnBy, turnOn, Ready}
 use Rattle.graph.specs.declared.edges.NextEdge.{NextEdge}
-use Rattle.graph.proofs.Turning.{places-long, end-le, start-less, top-in-file, size, looks-in-block, taken, target-in-file, enter-room}
+use Rattle.graph.specs.ByTable.{places-long, end-le, start-less}
+use Rattle.graph.proofs.Turning.{top-in-file, size, looks-in-block, taken, target-in-file, enter-room}
 
 -- what is known of the innermost block
 pub record Top (s places : List ℕ) (t : Tables) : Type 0 where

@@ -20,6 +20,7 @@ use Rattle.rules.specs.declared.Record.{Record}
 use Rattle.rules.specs.declared.Record.the-variants as record′
 use Rattle.lists.specs.Tests.{eqb-swap, or-left, or-right}
 use Rattle.records.specs.Parts.{cut-heads, targets-in-order}
+use Rattle.records.specs.Values.{valueOf}
 
 -- A RECORD OF A KIND has that number for its first word, unless the kind is 0.
 module _ (k w : ℕ) (some : T (not (eqb 0 k))) where
@@ -107,6 +108,29 @@ module _ (s : List ℕ) (few : T (not (tooMany s))) where
   abbrev before : Bool
   before = ltb largestRecords (recordCount s) || ltb largestValues (of 1)
 
+  early : T before → T (tooMany s)
+  early h =
+      or-left (before || ltb largestBlocks (of 2) || ltb largestInstructions (of 4)) (ltb largestEdges (of 7))
+      (or-left (before || ltb largestBlocks (of 2)) (ltb largestInstructions (of 4)) (or-left before (ltb largestBlocks (of 2)) h))
+
+  -- Its records are at most the largest count,
+  pub records-few : recordCount s ≤ largestRecords
+  records-few =
+      nltb→le largestRecords (recordCount s)
+      (not-above (ltb largestRecords (recordCount s)) (λ h. early (or-left (ltb largestRecords (recordCount s)) (ltb largestValues (of 1)) h)))
+
+  -- and so are its values,
+  pub values-few : length (functionIn s .values) ≤ largestValues
+  unfolding function
+  values-few =
+      omega (
+        arith,
+        length-map (ofKind 1 (records s)) valueOf,
+        ofKind-le 1 tt s,
+        nltb→le largestValues (of 1)
+            (not-above (ltb largestValues (of 1)) (λ h. early (or-right (ltb largestRecords (recordCount s)) (ltb largestValues (of 1)) h))),
+      )
+
   third : T (ltb largestBlocks (of 2)) → T (tooMany s)
   third h =
       or-left (before || ltb largestBlocks (of 2) || ltb largestInstructions (of 4)) (ltb largestEdges (of 7))
@@ -115,7 +139,7 @@ module _ (s : List ℕ) (few : T (not (tooMany s))) where
   fifth : T (ltb largestEdges (of 7)) → T (tooMany s)
   fifth h = or-right (before || ltb largestBlocks (of 2) || ltb largestInstructions (of 4)) (ltb largestEdges (of 7)) h
 
-  -- Its blocks are at most the largest count,
+  -- its blocks,
   pub blocks-few : length (functionIn s .blocks) ≤ largestBlocks
   unfolding function
   blocks-few =
@@ -129,7 +153,7 @@ module _ (s : List ℕ) (few : T (not (tooMany s))) where
         nltb→le largestBlocks (of 2) (not-above (ltb largestBlocks (of 2)) third),
       )
 
-  -- and so are its edges, if it is in order.
+  -- and its edges, if it is in order.
   pub edges-few : T (ordered 0 (records s)) → length (allEdges (functionIn s)) ≤ largestEdges
   edges-few h =
       omega (

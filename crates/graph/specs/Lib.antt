@@ -7,5 +7,6 @@ pub mod NextEdge
 pub mod Tables
 pub mod Few
 pub mod Links
+pub mod ByTable
 pub mod LinkLaws
 pub mod Room

@@ -4,7 +4,7 @@ use mathlib.Core.Path.{_≡_, refl, sym, ap, _∙_}
 use mathlib.Core.Bool.{not}
 use mathlib.Core.List.{List, [], _∷_, _++_, append-nil, List·Nodup, nodup-cons}
 use native.Mathlib.Omega.{arith}
-use lib.ListN.{length, take, replicate, length-append, length-map, length-replicate}
+use lib.ListN.{length, take, length-append, length-map}
 use lib.Seq.{take-suc, take-length}
 use lib.Dec.{T, not-T}
 use Rattle.rules.specs.Limits.{largestBlocks, largestEdges}
@@ -19,9 +19,9 @@ use Rattle.lists.specs.Maps.{concatMap-append, concatMap-concatMap}
 use Rattle.lists.specs.Lack.{lack, lack-insert}
 use Rattle.walks.specs.Reachable.{reachable-nodup}
 use Rattle.walks.specs.InFile.{blocks-some, reachable-in-file}
-use Rattle.graph.specs.Zeros.{length-padded, zeros-zeros}
-use Rattle.graph.specs.Blocks.{blockTable, length-blockTable}
-use Rattle.graph.specs.Tables.{tables, Given, Lent}
+use Rattle.graph.specs.Zeros.{Zeros}
+use Rattle.graph.specs.Blocks.{blockPlaces, blockTable, length-blockPlaces}
+use Rattle.graph.specs.Tables.{tables, Lent}
 use Rattle.graph.specs.Links.{links, reachableEdges, LentLinks}
 use Rattle.graph.specs.Few.{blocks-few, edges-few}
 
@@ -75,57 +75,53 @@ module _ (f : Function) where
         all-edges,
       )
 
+-- a table of zeros with a place for each of the largest count
+abbrev pub Blank : ℕ → List ℕ → Type 0
+Blank largest table = (largest ≤ length table) × Zeros table
+
 -- TABLES OF THE LARGEST COUNTS are long enough for a file that those refusals let pass.
 module _ (s : List ℕ) (few : T (not (tooMany s))) (inOrder : T (ordered 0 (records s))) (inFile : T (numbersInFile (functionIn s))) where
-  -- the block table, with a place for each block and one behind,
-  abbrev places : List ℕ
-  places = padded (suc largestBlocks) (blockTable s)
+  -- the block table has a place for each block and one behind
+  pub table-room : (n : ℕ) → largestBlocks < n → length (blockPlaces s) < n
+  table-room n l = omega (arith, length-blockPlaces s, blocks-few s few)
 
-  pub length-places : length places ≡ suc largestBlocks
-  length-places = length-padded (suc largestBlocks) (blockTable s) (omega (arith, length-blockTable s, blocks-few s few))
+  enough : {table : List ℕ} → Blank largestBlocks table → length (functionIn s .blocks) ≤ length table
+  enough h = omega (arith, blocks-few s few, h .0)
 
-  pub table-given : Given s places
-  table-given =
-      record { inOrder = inOrder; inFile = inFile; table = ap (λ (n : ℕ). padded n (blockTable s)) (sym length-places) }
-
-  -- the tables of the walk,
-  abbrev perBlock : List ℕ
-  perBlock = replicate largestBlocks 0
-
-  enough : length (functionIn s .blocks) ≤ length perBlock
-  enough = omega (arith, blocks-few s few, length-replicate {A = ℕ} largestBlocks 0)
-
-  pub walk-lent : Lent s places (tables perBlock perBlock perBlock perBlock 0 0)
-  walk-lent =
+  -- so do the tables of the walk,
+  pub walk-lent :
+      (places order index stack next : List ℕ) → places ≡ padded (length places) (blockTable s)
+      → Blank largestBlocks order → Blank largestBlocks index → Blank largestBlocks stack → Blank largestBlocks next
+      → Lent s places (tables order index stack next 0 0)
+  walk-lent places order index stack next table o i t n =
       record {
-        given = table-given;
-        room = record { order = enough; index = enough; stack = enough; next = enough };
-        order = zeros-zeros largestBlocks;
-        index = zeros-zeros largestBlocks;
-        stack = zeros-zeros largestBlocks;
-        next = zeros-zeros largestBlocks;
+        given = record { inOrder = inOrder; inFile = inFile; table = table };
+        room = record { order = enough o; index = enough i; stack = enough t; next = enough n };
+        order = o .1;
+        index = i .1;
+        stack = t .1;
+        next = n .1;
       }
 
-  -- and those of the lists.
-  abbrev perEdge : List ℕ
-  perEdge = replicate largestEdges 0
-
-  enoughEdges : length (reachableEdges (functionIn s)) ≤ length perEdge
-  enoughEdges =
+  enoughEdges : {table : List ℕ} → Blank largestEdges table → length (reachableEdges (functionIn s)) ≤ length table
+  enoughEdges h =
       omega (
         arith,
         reachableEdges-le (functionIn s) inFile (blocks-some (records s) inOrder),
         edges-few s few inOrder,
-        length-replicate {A = ℕ} largestEdges 0,
+        h .0,
       )
 
-  pub lists-lent : LentLinks (functionIn s) (links perBlock perEdge perEdge 0)
-  lists-lent =
+  -- and those of the lists of predecessors.
+  pub lists-lent :
+      (first from next : List ℕ) → Blank largestBlocks first → Blank largestEdges from → Blank largestEdges next
+      → LentLinks (functionIn s) (links first from next 0)
+  lists-lent first from next b f n =
       record {
-        blocks = enough;
-        froms = enoughEdges;
-        nexts = enoughEdges;
-        first = zeros-zeros largestBlocks;
-        from = zeros-zeros largestEdges;
-        next = zeros-zeros largestEdges;
+        blocks = enough b;
+        froms = enoughEdges f;
+        nexts = enoughEdges n;
+        first = b .1;
+        from = f .1;
+        next = n .1;
       }

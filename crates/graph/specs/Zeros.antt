@@ -53,6 +53,10 @@ pub length-padded : (n : ℕ) (xs : List ℕ) → length xs ≤ n → length (pa
 length-padded n xs l =
     omega (arith, length-append xs (replicate (n - length xs) 0), length-replicate {A = ℕ} (n - length xs) 0)
 
+-- a table that is so long
+pub padded-own : (table xs : List ℕ) (n : ℕ) → table ≡ padded n xs → length table ≡ n → table ≡ padded (length table) xs
+padded-own table xs n e l = e ∙ ap (λ (k : ℕ). padded k xs) (sym l)
+
 pub zeros-zeros : (n : ℕ) → Zeros (replicate n 0)
 zeros-zeros n = ap (λ (k : ℕ). replicate {A = ℕ} k 0) (sym (length-replicate {A = ℕ} n 0))
 

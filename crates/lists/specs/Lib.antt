@@ -5,4 +5,5 @@ pub mod Maps
 pub mod Counts
 pub mod Lack
 pub mod Alls
+pub mod Anys
 pub mod Truths

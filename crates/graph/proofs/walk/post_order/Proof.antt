@@ -1,6 +1,6 @@
 -- `graph::walk::post_order` meets its contract.
 use Rattle.graph.proofs.Walking.{Sized, start-ready, turn-ready, turn-less, end-numbered}
-use Rattle.graph.proofs.Turning.{some, places-long, start-less}
+use Rattle.graph.specs.ByTable.{some, places-long, start-less}
 use Rattle.graph.specs.Tables.{tables, machineOf, Ready}
 use Rattle.walks.specs.Machine.{left}
 use Rattle.rules.specs.File.{functionIn}

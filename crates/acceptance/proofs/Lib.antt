@@ -1,0 +1,2 @@
+pub mod MarkedContexts
+pub mod Surveying

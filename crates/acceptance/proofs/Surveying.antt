@@ -1,0 +1,97 @@
+-- Where a survey ends: at the records, at the function, or with the walk.
+use Prim.Native.Nat.{ℕ}
+use mathlib.Core.Path.{_≡_, refl, sym, ap, subst, _∙_}
+use mathlib.Core.Bool.{Bool, true, false, not, _&&_}
+use mathlib.Core.List.{List}
+use lib.ListN.{length}
+use lib.Dec.{T}
+use Rattle.rules.specs.Lists.{padded}
+use Rattle.rules.specs.Records.{records}
+use Rattle.rules.specs.File.{functionIn}
+use Rattle.rules.specs.Graph.{reachable}
+use Rattle.rules.specs.Refusals.{firstOf, fileRefusals}
+use Rattle.rules.specs.Services.{isAccepted}
+use Rattle.rules.specs.declared.Verdict.{Verdict}
+use Rattle.lists.specs.Tests.{and-intro, chosen, left-out}
+use Rattle.checks.specs.Definitions.{notedAll}
+use Rattle.graph.specs.Blocks.{blockTable}
+use Rattle.graph.specs.Tables.{tables, indexTable, Numbered}
+use Rattle.acceptance.specs.Stages.{recordRefusals, functionRefusals, walkRefusals, recordsPass, functionPasses}
+use Rattle.acceptance.specs.Survey.{SurveyTables, surveyTables, Surveyed, verdict-records, verdict-function, verdict-walk}
+
+not-left : (a b : Bool) → T (not a) → T (not (a && b))
+not-left true b h = absurd h
+not-left false b h = tt
+
+not-right : (a b : Bool) → T (not b) → T (not (a && b))
+not-right true b h = h
+not-right false b h = tt
+
+-- a stage's answer, as the code asks for it: whether it let the file pass
+pub said-no : {b : Bool} {v w : Verdict} → b ≡ isAccepted v → v ≡ w → not b ≡ true → T (not (isAccepted w))
+said-no {v = v} e same h = subst (λ x. T (not (isAccepted x))) same (subst T (sym h ∙ ap not e) tt)
+
+pub said-yes : {b : Bool} {v w : Verdict} → b ≡ isAccepted v → v ≡ w → not b ≡ false → T (isAccepted w)
+said-yes {b} {v} e same h = subst (λ x. T (isAccepted x)) same (subst T e (go b h))
+  where
+    go : (b : Bool) → not b ≡ false → T b
+    go true h = tt
+    go false h = absurd (subst T h tt)
+
+module _ (s counts places order index stack next : List ℕ) (v : Verdict) where
+  abbrev lent : SurveyTables
+  lent = surveyTables counts places order index stack next
+
+  abbrev ofFunction : Bool
+  ofFunction = isAccepted (firstOf (functionRefusals s))
+
+  -- the file was not walked: the tables of the walk are as they were lent
+  unwalked :
+      T (not (functionPasses s)) → (back : List ℕ)
+      → back ≡ elim (recordsPass s) [ true ↦ notedAll counts (records s) | false ↦ counts ] → v ≡ firstOf (fileRefusals s)
+      → Surveyed s lent (surveyTables back places order index stack next) v 0
+  unwalked n back noted says =
+      record {
+        says = says;
+        counted = sym (left-out (functionPasses s) (length (reachable (functionIn s))) 0 n);
+        counts = noted;
+        places = sym (left-out (functionPasses s) (padded (length places) (blockTable s)) places n);
+        order = sym (left-out (functionPasses s) (padded (length order) (reachable (functionIn s))) order n);
+        index = sym (left-out (functionPasses s) (indexTable (functionIn s) (length index)) index n);
+        stack = refl;
+        next = refl;
+      }
+
+  -- its records are at fault
+  pub ends-at-records : T (not (recordsPass s)) → v ≡ firstOf (recordRefusals s) → Surveyed s lent lent v 0
+  ends-at-records n says =
+      unwalked (not-left (recordsPass s) ofFunction n) counts
+      (sym (left-out (recordsPass s) (notedAll counts (records s)) counts n)) (says ∙ sym (verdict-records s n))
+
+  module _ (p : T (recordsPass s)) (back : List ℕ) (noted : back ≡ notedAll counts (records s)) where
+    counted : back ≡ elim (recordsPass s) [ true ↦ notedAll counts (records s) | false ↦ counts ]
+    counted = noted ∙ sym (chosen (recordsPass s) (notedAll counts (records s)) counts p)
+
+    -- its function is
+    pub ends-at-function :
+        T (not ofFunction) → v ≡ firstOf (functionRefusals s) → Surveyed s lent (surveyTables back places order index stack next) v 0
+    ends-at-function n says = unwalked (not-right (recordsPass s) ofFunction n) back counted (says ∙ sym (verdict-function s p n))
+
+    -- it was walked
+    pub ends-with-walk :
+        T ofFunction → v ≡ firstOf (walkRefusals s) → (places′ order′ index′ stack′ next′ : List ℕ) (count : ℕ)
+        → places′ ≡ padded (length places) (blockTable s)
+        → Numbered (functionIn s) (tables order index stack next 0 0) (tables order′ index′ stack′ next′ 0 count)
+        → Surveyed s lent (surveyTables back places′ order′ index′ stack′ next′) v count
+    ends-with-walk q says places′ order′ index′ stack′ next′ count table walked =
+        let passes = and-intro (recordsPass s) ofFunction p q in
+        record {
+          says = says ∙ sym (verdict-walk s p q);
+          counted = walked .count ∙ sym (chosen (functionPasses s) (length (reachable (functionIn s))) 0 passes);
+          counts = counted;
+          places = table ∙ sym (chosen (functionPasses s) (padded (length places) (blockTable s)) places passes);
+          order = walked .order ∙ sym (chosen (functionPasses s) (padded (length order) (reachable (functionIn s))) order passes);
+          index = walked .index ∙ sym (chosen (functionPasses s) (indexTable (functionIn s) (length index)) index passes);
+          stack = walked .stack;
+          next = walked .next;
+        }

@@ -1,0 +1,181 @@
+-- The survey of a file: what is said of it, and the tables that it is read by afterwards, filled as far as it was read.
+use Prim.Native.Nat.{ℕ, suc, _<_, _≤_}
+use mathlib.Core.Path.{_≡_, sym, ap, subst, _∙_}
+use mathlib.Core.Bool.{Bool, true, false, not, _&&_}
+use mathlib.Core.List.{List}
+use native.Mathlib.Omega.{arith}
+use lib.ListN.{length, getD}
+use lib.Dec.{T, T-not}
+use Rattle.rules.specs.Limits.{largestValues, largestBlocks}
+use Rattle.rules.specs.Lists.{padded}
+use Rattle.rules.specs.Records.{records}
+use Rattle.rules.specs.File.{functionIn}
+use Rattle.rules.specs.Graph.{reachable}
+use Rattle.rules.specs.Refusals.{firstOf, definedOnce, sound, markedContext, fileRefusals}
+use Rattle.rules.specs.Services.{isAccepted}
+use Rattle.rules.specs.declared.Verdict.{Verdict}
+use Rattle.lists.specs.Tests.{test-elim, and-left, and-right, and-intro, is-true, chosen, left-out}
+use Rattle.checks.specs.Definitions.{notedAll, Countable}
+use Rattle.graph.specs.Zeros.{zeros-at, length-padded, padded-own}
+use Rattle.lists.specs.Lack.{nodup-length-le}
+use Rattle.walks.specs.Reachable.{reachable-nodup}
+use Rattle.walks.specs.InFile.{blocks-some, reachable-in-file}
+use Rattle.graph.specs.Blocks.{blockTable, length-blockTable}
+use Rattle.graph.specs.Tables.{indexTable}
+use Rattle.graph.specs.Links.{Walked}
+use Rattle.graph.specs.Few.{records-few, values-few, blocks-few}
+use Rattle.graph.specs.Room.{Blank}
+use Rattle.acceptance.specs.Stages.{recordRefusals, functionRefusals, walkRefusals, passed-none, recordsPass, functionPasses, stages-verdict, Readable, records-readable, T-not-not}
+
+-- the tables that a survey fills: how often each value is defined, where blocks start, the reachable blocks by index, each
+-- block's index; and the two that the walk only needs
+pub record SurveyTables : Type 0 where
+  pub counts : List ℕ
+  pub places : List ℕ
+  pub order : List ℕ
+  pub index : List ℕ
+  pub stack : List ℕ
+  pub next : List ℕ
+
+abbrev pub surveyTables : List ℕ → List ℕ → List ℕ → List ℕ → List ℕ → List ℕ → SurveyTables
+surveyTables counts places order index stack next =
+    record { counts = counts; places = places; order = order; index = index; stack = stack; next = next }
+
+-- what is lent: zeros, as many as the largest counts ask
+pub record BlankTables (t : SurveyTables) : Type 0 where
+  pub counts : Blank largestValues (t .counts)
+  pub places : Blank (suc largestBlocks) (t .places)
+  pub order : Blank largestBlocks (t .order)
+  pub index : Blank largestBlocks (t .index)
+  pub stack : Blank largestBlocks (t .stack)
+  pub next : Blank largestBlocks (t .next)
+
+-- what is handed back. Definitions are counted where refusals 2 to 5 let the file pass, and it is walked where 6 and 7 do
+-- too; a table that is not come to is as it was lent.
+pub record Surveyed (s : List ℕ) (lent back : SurveyTables) (verdict : Verdict) (count : ℕ) : Type 0 where
+  pub says : verdict ≡ firstOf (fileRefusals s)
+  pub counted : count ≡ elim (functionPasses s) [ true ↦ length (reachable (functionIn s)) | false ↦ 0 ]
+  pub counts : back .counts ≡ elim (recordsPass s) [ true ↦ notedAll (lent .counts) (records s) | false ↦ lent .counts ]
+  pub places : back .places ≡ elim (functionPasses s) [ true ↦ padded (length (lent .places)) (blockTable s) | false ↦ lent .places ]
+  pub order : back .order ≡ elim (functionPasses s) [ true ↦ padded (length (lent .order)) (reachable (functionIn s)) | false ↦ lent .order ]
+  pub index : back .index ≡ elim (functionPasses s) [ true ↦ indexTable (functionIn s) (length (lent .index)) | false ↦ lent .index ]
+  pub stack : back .stack ≡ lent .stack
+  pub next : back .next ≡ lent .next
+
+-- WHAT AN ACCEPTED FILE IS.
+pub record Accepted (s : List ℕ) : Type 0 where
+  pub readable : Readable s
+  pub once : T (definedOnce (functionIn s))
+  pub isSound : T (sound (functionIn s))
+  pub unmarked : T (not (markedContext (functionIn s)))
+
+module _ (s : List ℕ) where
+  -- the stages' verdict is the file's, as far as they let it pass
+  pub verdict-records : T (not (recordsPass s)) → firstOf (fileRefusals s) ≡ firstOf (recordRefusals s)
+  verdict-records n =
+      stages-verdict s
+      ∙ left-out (recordsPass s)
+      (elim (isAccepted (firstOf (functionRefusals s))) [ true ↦ firstOf (walkRefusals s) | false ↦ firstOf (functionRefusals s) ])
+      (firstOf (recordRefusals s)) n
+
+  behind-records :
+      T (recordsPass s)
+      → firstOf (fileRefusals s)
+      ≡ elim (isAccepted (firstOf (functionRefusals s))) [ true ↦ firstOf (walkRefusals s) | false ↦ firstOf (functionRefusals s) ]
+  behind-records p =
+      stages-verdict s
+      ∙ chosen (recordsPass s)
+      (elim (isAccepted (firstOf (functionRefusals s))) [ true ↦ firstOf (walkRefusals s) | false ↦ firstOf (functionRefusals s) ])
+      (firstOf (recordRefusals s)) p
+
+  pub verdict-function :
+      T (recordsPass s) → T (not (isAccepted (firstOf (functionRefusals s)))) → firstOf (fileRefusals s) ≡ firstOf (functionRefusals s)
+  verdict-function p n =
+      behind-records p ∙ left-out (isAccepted (firstOf (functionRefusals s))) (firstOf (walkRefusals s)) (firstOf (functionRefusals s)) n
+
+  pub verdict-walk :
+      T (recordsPass s) → T (isAccepted (firstOf (functionRefusals s))) → firstOf (fileRefusals s) ≡ firstOf (walkRefusals s)
+  verdict-walk p q =
+      behind-records p ∙ chosen (isAccepted (firstOf (functionRefusals s))) (firstOf (walkRefusals s)) (firstOf (functionRefusals s)) q
+
+  -- An accepted file passed every stage,
+  pub accepted-passes : T (isAccepted (firstOf (fileRefusals s))) → T (functionPasses s) × T (isAccepted (firstOf (walkRefusals s)))
+  accepted-passes a =
+      test-elim (recordsPass s)
+      (λ p.
+      test-elim (isAccepted (firstOf (functionRefusals s)))
+      (λ q. (
+        and-intro (recordsPass s) (isAccepted (firstOf (functionRefusals s))) p q,
+        subst (λ v. T (isAccepted v)) (verdict-walk p q) a,
+      ))
+      (λ n. absurd (T-not (isAccepted (firstOf (functionRefusals s))) n (subst (λ v. T (isAccepted v)) (verdict-function p n) a))))
+      (λ n. absurd (T-not (recordsPass s) n (subst (λ v. T (isAccepted v)) (verdict-records n) a)))
+
+  -- so no refusal applies to it.
+  pub accepted-is : T (isAccepted (firstOf (fileRefusals s))) → Accepted s
+  unfolding functionRefusals walkRefusals
+  accepted-is a =
+      let passes = accepted-passes a in
+      let once = definedOnce (functionIn s) in
+      let isSound = sound (functionIn s) in
+      let function-none = passed-none (functionRefusals s) tt (and-right (recordsPass s) (isAccepted (firstOf (functionRefusals s))) (passes .0)) in
+      record {
+        readable = records-readable s (and-left (recordsPass s) (isAccepted (firstOf (functionRefusals s))) (passes .0));
+        once = T-not-not once (and-left (not (not once)) (not (not isSound) && true) function-none);
+        isSound = T-not-not isSound (and-left (not (not isSound)) true (and-right (not (not once)) (not (not isSound) && true) function-none));
+        unmarked = and-left (not (markedContext (functionIn s))) true (passed-none (walkRefusals s) tt (passes .1));
+      }
+
+-- Definitions can be counted in a blank table.
+pub readable-countable : {s counts : List ℕ} → Readable s → Blank largestValues counts → Countable s counts
+readable-countable {s} r b =
+    record {
+      inOrder = is-true _ (r .inOrder);
+      inFile = is-true _ (r .inFile);
+      few = records-few s (r .few);
+      room = omega (arith, values-few s (r .few), b .0);
+      zeros = zeros-at (b .1);
+    }
+
+-- THE TABLES OF A FILE THAT WAS WALKED, as the layers behind read them.
+module _ {s : List ℕ} (r : Readable s) where
+  pub numbered-walked :
+      {places order : List ℕ} {count n m : ℕ} → largestBlocks < n → places ≡ padded n (blockTable s) → largestBlocks ≤ m
+      → order ≡ padded m (reachable (functionIn s)) → count ≡ length (reachable (functionIn s)) → Walked s places order count
+  numbered-walked {places} {order} {count} {n} {m} long isTable listed isOrder counted =
+      let f = functionIn s in
+      let few = blocks-few s (r .few) in
+      let places-long : length places ≡ n =
+      ap length isTable ∙ length-padded n (blockTable s) (omega (arith, length-blockTable s)) in
+      let order-long : length order ≡ m =
+      ap length isOrder
+      ∙ length-padded m (reachable f)
+      (omega (
+        arith,
+        nodup-length-le (length (f .blocks)) (reachable f) (reachable-nodup f)
+            (λ x. reachable-in-file f (r .inFile) (blocks-some (records s) (r .inOrder))),
+      )) in
+      record {
+        given =
+            record {
+              inOrder = r .inOrder;
+              inFile = r .inFile;
+              table = padded-own places (blockTable s) n isTable places-long;
+            };
+        counted = counted;
+        listed = padded-own order (reachable f) m isOrder order-long;
+      }
+
+-- So are those of an accepted file.
+pub surveyed-walked :
+    {s : List ℕ} {lent back : SurveyTables} {verdict : Verdict} {count : ℕ} → BlankTables lent → Surveyed s lent back verdict count
+    → T (isAccepted verdict) → Walked s (back .places) (back .order) count
+surveyed-walked {s} {lent} {back} b g a =
+    let f = functionIn s in
+    let passes = accepted-passes s (subst (λ v. T (isAccepted v)) (g .says) a) .0 in
+    numbered-walked (records-readable s (and-left (recordsPass s) (isAccepted (firstOf (functionRefusals s))) passes))
+    (b .places .0)
+    (g .places ∙ chosen (functionPasses s) (padded (length (lent .places)) (blockTable s)) (lent .places) passes)
+    (b .order .0)
+    (g .order ∙ chosen (functionPasses s) (padded (length (lent .order)) (reachable f)) (lent .order) passes)
+    (g .counted ∙ chosen (functionPasses s) (length (reachable f)) 0 passes)

@@ -1,0 +1,58 @@
+// Refusal 8: a marked context in a reachable block.
+ghost use mathlib.Core.Path.{_≡_};
+ghost use mathlib.Core.Bool.{true, _&&_};
+ghost use Prim.Native.Nat.{_≤_};
+ghost use lib.Dec.{eqb};
+ghost use Rattle.rules.specs.Lists.{any};
+ghost use Rattle.rules.specs.Records.{records, recordCount};
+ghost use Rattle.rules.specs.File.{named, ordered, functionIn};
+ghost use Rattle.rules.specs.Graph.{isMarked};
+ghost use Rattle.rules.specs.Refusals.{markedContext};
+ghost use Rattle.graph.specs.Between.{between};
+ghost use Rattle.graph.specs.Links.{Walked};
+use records::record_at;
+use records::values::is_marked;
+use records::words_of;
+use rules::Words;
+
+// Whether four words are a context that is marked.
+fn is_marked_context(s: &[u8], w: Words) -> bool
+    requires { ⌜ ordered 0 (records (now s)) ≡ true ⌝ }
+    ensures { λ r. ⌜ r ≡ (eqb (w .kind) 9 && isMarked (functionIn (now (s .entry))) (w .second)) ⌝ }
+{
+    if w.kind == 9 {
+        return is_marked(s, w.second);
+    }
+    false
+}
+
+// Whether a marked context stands from a place on and before place end.
+fn marked_between(s: &[u8], start: usize, end: usize) -> bool
+    requires { ⌜ (ordered 0 (records (now s)) ≡ true) × (start ≤ end) × (end ≤ recordCount (now s)) ⌝ }
+    ensures { λ r. ⌜ r ≡ any (isMarked (functionIn (now (s .entry)))) (named 9 (between (now (s .entry)) start end)) ⌝ }
+{
+    let mut i = start;
+    while i < end {
+        if is_marked_context(s, words_of(record_at(s, i))) {
+            return true;
+        }
+        i += 1;
+    }
+    false
+}
+
+// Whether a marked context stands in a reachable block.
+pub fn marked_context(s: &[u8], places: &[usize], order: &[usize], count: usize) -> bool
+    requires { ⌜ Walked (now s) (now places) (now order) count ⌝ }
+    ensures { λ r. ⌜ r ≡ markedContext (functionIn (now (s .entry))) ⌝ }
+{
+    let mut i: usize = 0;
+    while i < count {
+        let b = order[i];
+        if marked_between(s, places[b] + 1, places[b + 1]) {
+            return true;
+        }
+        i += 1;
+    }
+    false
+}

@@ -1,0 +1,89 @@
+// The survey of a file: refusals 2 to 8, lowest first, over lent tables. They are filled on the way, and what lies behind
+// reads an accepted file by them.
+ghost use mathlib.Core.Path.{_≡_};
+ghost use lib.ListN.{length};
+ghost use Rattle.rules.specs.Limits.{largestBlocks};
+ghost use Rattle.rules.specs.Lists.{padded};
+ghost use Rattle.rules.specs.File.{functionIn};
+ghost use Rattle.rules.specs.Refusals.{firstOf};
+ghost use Rattle.graph.specs.Blocks.{blockTable};
+ghost use Rattle.graph.specs.Tables.{tables, Numbered};
+ghost use Rattle.graph.specs.Links.{Walked};
+ghost use Rattle.graph.specs.Room.{Blank};
+ghost use Rattle.acceptance.specs.Stages.{walkRefusals, Readable};
+ghost use Rattle.acceptance.specs.Survey.{surveyTables, BlankTables, Surveyed};
+ghost use Prim.Native.Nat.{suc};
+use crate::contexts::marked_context;
+use crate::verdict::function_verdict;
+use crate::verdict::is_accepted;
+use crate::verdict::records_verdict;
+use graph::places::places_of;
+use graph::walk::post_order;
+use rules::Verdict;
+
+// What is said of a file, and how many blocks are reachable if it was walked.
+pub struct SurveyAnswer {
+    pub verdict: Verdict,
+    pub reachable: usize,
+}
+
+// Refusal 8: what is wrong with the reachable blocks.
+pub fn walk_verdict(s: &[u8], places: &[usize], order: &[usize], count: usize) -> Verdict
+    requires { ⌜ Walked (now s) (now places) (now order) count ⌝ }
+    ensures { λ r. ⌜ r ≡ firstOf (walkRefusals (now (s .entry))) ⌝ }
+{
+    if marked_context(s, places, order, count) {
+        return Verdict::MarkedContext;
+    }
+    Verdict::Accepted
+}
+
+// The block table and the walk of a file that refusals 2 to 5 let pass. Answers how many blocks are reachable.
+fn walk_blocks(
+    s: &[u8],
+    places: &mut [usize],
+    order: &mut [usize],
+    index: &mut [usize],
+    stack: &mut [usize],
+    next: &mut [usize],
+) -> usize
+    requires { ⌜ Readable (now s) × Blank (suc largestBlocks) (now places) × Blank largestBlocks (now order) × Blank largestBlocks (now index) × Blank largestBlocks (now stack) × Blank largestBlocks (now next) ⌝ }
+    ensures { λ r. ⌜ (now (places .exit) ≡ padded (length (now (places .entry))) (blockTable (now (s .entry)))) × Numbered (functionIn (now (s .entry))) (tables (now (order .entry)) (now (index .entry)) (now (stack .entry)) (now (next .entry)) 0 0) (tables (now (order .exit)) (now (index .exit)) (now (stack .exit)) (now (next .exit)) 0 r) ⌝ }
+{
+    places_of(s, 2, places);
+    post_order(s, places, order, index, stack, next)
+}
+
+// Refusals 2 to 8, and the tables as far as the file was read.
+pub fn survey(
+    s: &[u8],
+    counts: &mut [u32],
+    places: &mut [usize],
+    order: &mut [usize],
+    index: &mut [usize],
+    stack: &mut [usize],
+    next: &mut [usize],
+) -> SurveyAnswer
+    requires { ⌜ BlankTables (surveyTables (now counts) (now places) (now order) (now index) (now stack) (now next)) ⌝ }
+    ensures { λ r. ⌜ Surveyed (now (s .entry)) (surveyTables (now (counts .entry)) (now (places .entry)) (now (order .entry)) (now (index .entry)) (now (stack .entry)) (now (next .entry))) (surveyTables (now (counts .exit)) (now (places .exit)) (now (order .exit)) (now (index .exit)) (now (stack .exit)) (now (next .exit))) (r .verdict) (r .reachable) ⌝ }
+{
+    let of_records = records_verdict(s);
+    if !is_accepted(of_records) {
+        return SurveyAnswer {
+            verdict: of_records,
+            reachable: 0,
+        };
+    }
+    let of_function = function_verdict(s, counts);
+    if !is_accepted(of_function) {
+        return SurveyAnswer {
+            verdict: of_function,
+            reachable: 0,
+        };
+    }
+    let reachable = walk_blocks(s, places, order, index, stack, next);
+    SurveyAnswer {
+        verdict: walk_verdict(s, places, order, reachable),
+        reachable,
+    }
+}

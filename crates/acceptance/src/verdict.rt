@@ -1,0 +1,74 @@
+// What is said of a file before and without the walk: refusals 2 to 5, of its records, and 6 and 7, of its function.
+ghost use mathlib.Core.Path.{_≡_};
+ghost use Rattle.rules.specs.Records.{records};
+ghost use Rattle.rules.specs.Refusals.{refusalNumber, firstOf};
+ghost use Rattle.rules.specs.Services.{isAccepted};
+ghost use Rattle.checks.specs.Definitions.{notedAll, Countable};
+ghost use Rattle.acceptance.specs.Stages.{recordRefusals, functionRefusals};
+use checks::counts::too_many;
+use checks::definitions::not_defined_once;
+use checks::numbers::not_in_file;
+use checks::order::malformed;
+use checks::soundness::unsound;
+use rules::RECORD_BYTES;
+use rules::Verdict;
+
+// Document 01's number of a verdict, 0 where the call is answered.
+pub fn refusal_number(v: Verdict) -> u32
+    ensures { λ r. ⌜ r ≡ refusalNumber v ⌝ }
+{
+    match v {
+        Verdict::Accepted => 0,
+        Verdict::PointerSize => 1,
+        Verdict::Length => 2,
+        Verdict::TooMany => 3,
+        Verdict::Malformed => 4,
+        Verdict::NotInFile => 5,
+        Verdict::NotDefinedOnce => 6,
+        Verdict::Unsound => 7,
+        Verdict::MarkedContext => 8,
+        Verdict::SlotSize => 9,
+        Verdict::NoSafepoint => 10,
+        Verdict::TooShort => 11,
+    }
+}
+
+// Whether a call is answered.
+pub fn is_accepted(v: Verdict) -> bool
+    ensures { λ r. ⌜ r ≡ isAccepted v ⌝ }
+{
+    refusal_number(v) == 0
+}
+
+// Refusals 2 to 5: what is wrong with the records of a file.
+pub fn records_verdict(s: &[u8]) -> Verdict
+    ensures { λ r. ⌜ r ≡ firstOf (recordRefusals (now (s .entry))) ⌝ }
+{
+    if s.len() % RECORD_BYTES != 0 {
+        return Verdict::Length;
+    }
+    if too_many(s) {
+        return Verdict::TooMany;
+    }
+    if malformed(s) {
+        return Verdict::Malformed;
+    }
+    if not_in_file(s) {
+        return Verdict::NotInFile;
+    }
+    Verdict::Accepted
+}
+
+// Refusals 6 and 7: what is wrong with the function that they are. The table then has how often each value is defined.
+pub fn function_verdict(s: &[u8], counts: &mut [u32]) -> Verdict
+    requires { ⌜ Countable (now s) (now counts) ⌝ }
+    ensures { λ r. ⌜ (r ≡ firstOf (functionRefusals (now (s .entry)))) × (now (counts .exit) ≡ notedAll (now (counts .entry)) (records (now (s .entry)))) ⌝ }
+{
+    if not_defined_once(s, counts) {
+        return Verdict::NotDefinedOnce;
+    }
+    if unsound(s) {
+        return Verdict::Unsound;
+    }
+    Verdict::Accepted
+}
