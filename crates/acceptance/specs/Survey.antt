@@ -1,10 +1,10 @@
 -- The survey of a file: what is said of it, and the tables that it is read by afterwards, filled as far as it was read.
 use Prim.Native.Nat.{ℕ, suc, _<_, _≤_}
-use mathlib.Core.Path.{_≡_, sym, ap, subst, _∙_}
-use mathlib.Core.Bool.{Bool, true, false, not, _&&_}
+use mathlib.Core.Path.{_≡_, ap, subst, _∙_}
+use mathlib.Core.Bool.{true, false, not, _&&_}
 use mathlib.Core.List.{List}
 use native.Mathlib.Omega.{arith}
-use lib.ListN.{length, getD}
+use lib.ListN.{length}
 use lib.Dec.{T, T-not}
 use Rattle.rules.specs.Limits.{largestValues, largestBlocks}
 use Rattle.rules.specs.Lists.{padded}

@@ -11,16 +11,15 @@ use Rattle.rules.specs.Lists.{concatMap, foldl}
 use Rattle.rules.specs.Records.{recordCount}
 use Rattle.rules.specs.File.{named, functionIn}
 use Rattle.rules.specs.Graph.{successors, reachable}
-use Rattle.lists.specs.Members.{here, getD-∈}
+use Rattle.lists.specs.Members.{here}
 use Rattle.lists.specs.Maps.{concatMap-append}
-use Rattle.walks.specs.InFile.{successor-in-file, reachable-in-file}
+use Rattle.walks.specs.InFile.{successor-in-file}
 use Rattle.graph.specs.declared.edges.NextEdge.{NextEdge}
-use Rattle.graph.specs.Zeros.{getD-padded, length-padded-le}
 use Rattle.graph.specs.Between.{between}
 use Rattle.graph.specs.NextEdge.{edgeFrom, targetsFrom, edgeFrom-targets, edgeFrom-behind}
 use Rattle.graph.specs.Links.{Links, links, linkEdge, linkBlock, linked, LentLinks, Walked, Linkable}
 use Rattle.graph.specs.LinkLaws.{edge-linkable, edges-used}
-use Rattle.graph.specs.ByTable.{some, places-long, end-le, start-less, edges-all, block-listed, block-at-index, index-long}
+use Rattle.graph.specs.ByTable.{places-long, end-le, start-less, edges-all, block-listed, block-at-index, index-long}
 
 -- EDGES. What is left to link, from the edge found on, leads to the end.
 pub record Linking (s : List ℕ) (q p : ℕ) (end l : Links) (e : NextEdge) : Type 0 where

@@ -1,31 +1,26 @@
 -- A turn keeps what holds between turns, and is a step of the machine.
 use Prim.Native.Nat.{ℕ, zero, suc, _+_, _-_, _<_, _≤_}
-use mathlib.Core.Path.{_≡_, refl, sym, ap, _∙_, subst}
+use mathlib.Core.Path.{_≡_, refl, sym, _∙_, subst}
 use mathlib.Core.Logic.{_≢_}
 use mathlib.Core.HLevel.{¬-prop}
 use mathlib.Core.Bool.{not}
 use mathlib.Core.List.{List, [], _∷_, reverse, pairwise-reverseAux}
 use native.Mathlib.Omega.{arith}
-use native.Mathlib.Numerals.{add-one}
 use lib.ListN.{length, getD, set, take, length-set, length-reverse}
 use lib.Seq.{getD-set-same, getD-set-other, length-take-le}
 use lib.Dec.{T, T-not, not-T, eqb, eqb→eq}
 use Rattle.rules.specs.Tree.{Function}
 use Rattle.rules.specs.Lists.{has}
-use Rattle.rules.specs.Records.{recordCount, records}
 use Rattle.rules.specs.File.{named, functionIn}
-use Rattle.rules.specs.Graph.{successors}
 use Rattle.lists.specs.Tests.{test-elim, if-elim, neqb→ne, chosen, left-out}
 use Rattle.lists.specs.Members.{_∈_, here, has→∈, ∈-reverseAux-left, ∈-reverseAux-right}
 use Rattle.walks.specs.Line.{sound-nodup}
-use Rattle.walks.specs.InFile.{blocks-some, path-in-file, successor-in-file}
+use Rattle.walks.specs.InFile.{path-in-file, successor-in-file}
 use Rattle.walks.specs.Machine.{Frame, Machine, blocksOn, Stacked, Kept, Going, step, push, step-going, step-kept, stack-length-le}
-use Rattle.graph.specs.Zeros.{getD-padded, length-padded-le}
 use Rattle.graph.specs.Between.{between}
-use Rattle.graph.specs.Blocks.{blockTable, placeOf, length-blockTable, place-le, place-less, successors-by-place}
 use Rattle.graph.specs.NextEdge.{Taken, edgeFrom, edgeFrom-taken}
 use Rattle.graph.specs.Tables.{Tables, finishTop, enterBlock, lookFrom, takeEdge, turnBy, turnOn, down, frameOf, frameAt, stageOf, machineOf, Given, Room, Clear, Ready}
-use Rattle.graph.specs.ByTable.{some, places-long, end-le, start-less, edges-all}
+use Rattle.graph.specs.ByTable.{some, end-le, start-less, edges-all}
 use Rattle.graph.proofs.Marks.{length-down}
 use Rattle.graph.proofs.Tags.{Tagged, tagged-more, tagged-other}
 use Rattle.graph.proofs.Steps.{stack-top, step-top, finish-step, skip-step, enter-step}

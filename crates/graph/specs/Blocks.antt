@@ -1,10 +1,10 @@
 -- The block table: the place of each block's record, and behind the last the number of records. Block b is what stands
 -- from place b to the next, and each of its parts is read off the records there.
-use Prim.Native.Nat.{ℕ, zero, suc, _+_, _<_, _≤_}
+use Prim.Native.Nat.{ℕ, zero, suc, _<_, _≤_}
 use mathlib.Core.Path.{_≡_, refl, sym, ap, _∙_, subst}
-use mathlib.Core.List.{List, [], _∷_, _++_, map}
+use mathlib.Core.List.{List, [], _∷_, map}
 use native.Mathlib.Omega.{arith}
-use lib.ListN.{length, getD, length-map, length-append}
+use lib.ListN.{length, getD, length-map}
 use lib.Dec.{T, eqb}
 use Rattle.rules.specs.Tree.{Edge, Instruction, Block}
 use Rattle.rules.specs.Records.{recordAt, recordCount, records}
@@ -17,7 +17,7 @@ use Rattle.lists.specs.Maps.{map-concatMap}
 use Rattle.lists.specs.Members.{all→∈, getD-∈}
 use Rattle.records.specs.Kinds.{kinds-weaken}
 use Rattle.records.specs.Parts.{blockBody, inBlock, in-block, isBlock, file-blocks, isBlock-body, block-instructions-are, block-picked, targets-picked}
-use Rattle.graph.specs.Between.{between, between-all, length-between}
+use Rattle.graph.specs.Between.{between, between-all}
 use Rattle.graph.specs.Sections.{agree, places, sectionsAt, cut-between, length-sectionsAt, section-at, places-same}
 use Rattle.graph.specs.Placed.{placesOf, placeTable, length-placeTable, placeTable-le, placeTable-less}
 

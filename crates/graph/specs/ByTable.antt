@@ -8,7 +8,6 @@ use lib.ListN.{length, getD}
 use Rattle.rules.specs.Records.{recordCount, records}
 use Rattle.rules.specs.File.{named, functionIn}
 use Rattle.rules.specs.Graph.{successors, reachable}
-use Rattle.rules.specs.declared.Record.{Record}
 use Rattle.lists.specs.Members.{getD-∈}
 use Rattle.walks.specs.InFile.{blocks-some, reachable-in-file}
 use Rattle.graph.specs.Zeros.{getD-padded, length-padded-le}

@@ -4,7 +4,7 @@ use mathlib.Core.Path.{_≡_, refl, sym, ap, _∙_}
 use mathlib.Core.Bool.{not}
 use mathlib.Core.List.{List, [], _∷_, _++_, append-nil, List·Nodup, nodup-cons}
 use native.Mathlib.Omega.{arith}
-use lib.ListN.{length, take, length-append, length-map}
+use lib.ListN.{length, take, replicate, length-append, length-map, length-replicate}
 use lib.Seq.{take-suc, take-length}
 use lib.Dec.{T, not-T}
 use Rattle.rules.specs.Limits.{largestBlocks, largestEdges}
@@ -19,7 +19,7 @@ use Rattle.lists.specs.Maps.{concatMap-append, concatMap-concatMap}
 use Rattle.lists.specs.Lack.{lack, lack-insert}
 use Rattle.walks.specs.Reachable.{reachable-nodup}
 use Rattle.walks.specs.InFile.{blocks-some, reachable-in-file}
-use Rattle.graph.specs.Zeros.{Zeros}
+use Rattle.graph.specs.Zeros.{Zeros, zeros-zeros}
 use Rattle.graph.specs.Blocks.{blockPlaces, blockTable, length-blockPlaces}
 use Rattle.graph.specs.Tables.{tables, Lent}
 use Rattle.graph.specs.Links.{links, reachableEdges, LentLinks}
@@ -78,6 +78,9 @@ module _ (f : Function) where
 -- a table of zeros with a place for each of the largest count
 abbrev pub Blank : ℕ → List ℕ → Type 0
 Blank largest table = (largest ≤ length table) × Zeros table
+
+pub blank-zeros : (n : ℕ) → Blank n (replicate n 0)
+blank-zeros n = (omega (arith, length-replicate {A = ℕ} n 0), zeros-zeros n)
 
 -- TABLES OF THE LARGEST COUNTS are long enough for a file that those refusals let pass.
 module _ (s : List ℕ) (few : T (not (tooMany s))) (inOrder : T (ordered 0 (records s))) (inFile : T (numbersInFile (functionIn s))) where

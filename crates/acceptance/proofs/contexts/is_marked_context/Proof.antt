@@ -1,3 +1,4 @@
+-- `acceptance::contexts::is_marked_context` meets its contract.
 use borrow.Author.Tests.{eq-eqb, ne-eqb}
 use Rattle.rules.specs.Graph.{isMarked}
 use Rattle.rules.specs.File.{functionIn}
@@ -6,19 +7,13 @@ use mathlib.Core.Path.{sym, ap, _∙_}
 use borrow.Author.Needs.{needs}
 use Rattle.acceptance.proofs.contexts.is_marked_context.Statement.{statement}
 use Rattle.acceptance.proofs.contexts.is_marked_context.Tie as tie
-use Rattle.acceptance.proofs.contexts.is_marked_context.Reads as reads
-use Rattle.acceptance.proofs.contexts.is_marked_context.Lts as lts
-use Rattle.records.proofs.values.is_marked.Reads as is-marked-reads
 
--- src/contexts.rt:24:9
 is-marked-requires : tie.Need-is-marked-requires
 is-marked-requires c κs = search needs
 
--- src/contexts.rt:24:9
 returns : tie.Need-returns
 returns c = let w = c .before .before .before .before .args .w in c .is-marked .ensures ∙ sym (ap (λ b. b && isMarked (functionIn (c .before .before .before .before .args .s .now)) (w .second)) (eq-eqb (w .kind) 9 (c .before .if1 .taken)))
 
--- src/contexts.rt:19:1
 returns-2 : tie.Need-returns-2
 returns-2 c = let w = c .before .before .before .args .w in sym (ap (λ b. b && isMarked (functionIn (c .before .before .before .args .s .now)) (w .second)) (ne-eqb (w .kind) 9 (c .if1 .left)))
 

@@ -1,3 +1,4 @@
+-- `acceptance::contexts::marked_between` meets its contract.
 use borrow.Author.Needs.{needs}
 use Rattle.acceptance.proofs.MarkedContexts.{isMarkedContext, markedBetween, marked-more, marked-none}
 use Rattle.rules.specs.Records.{encode, recordAt}
@@ -7,11 +8,6 @@ use mathlib.Core.Path.{_≡_, refl, sym, ap, _∙_}
 use Prim.Native.Nat.{_≤_, _-_, _+_}
 use Rattle.acceptance.proofs.contexts.marked_between.Statement.{statement}
 use Rattle.acceptance.proofs.contexts.marked_between.Tie as tie
-use Rattle.acceptance.proofs.contexts.marked_between.Reads as reads
-use Rattle.acceptance.proofs.contexts.marked_between.Lts as lts
-use Rattle.acceptance.proofs.contexts.is_marked_context.Reads as is-marked-context-reads
-use Rattle.records.proofs.record_at.Reads as record-at-reads
-use Rattle.records.proofs.words_of.Reads as words-of-reads
 
 abbrev Inv-loop : tie.InvT-loop
 Inv-loop s start end i₀ i = (start ≤ i) × (i ≤ end) × (markedBetween s i end ≡ markedBetween s start end)
@@ -19,23 +15,18 @@ Inv-loop s start end i₀ i = (start ≤ i) × (i ≤ end) × (markedBetween s i
 abbrev μ-loop : tie.MeasureT-loop
 μ-loop s start end i₀ i = end - i
 
--- src/contexts.rt:35:5
 loop-holds : tie.Need-loop-holds Inv-loop μ-loop
 loop-holds c = (omega arith, search needs, refl)
 
--- src/contexts.rt:36:42
 record-at-requires : tie.Need-record-at-requires Inv-loop μ-loop
 record-at-requires c κs = search needs
 
--- src/contexts.rt:36:33
 words-of-requires : tie.Need-words-of-requires Inv-loop μ-loop
 words-of-requires c κs = search needs
 
--- src/contexts.rt:36:12
 is-marked-context-requires : tie.Need-is-marked-context-requires Inv-loop μ-loop
 is-marked-context-requires c κs = search needs
 
--- src/contexts.rt:37:13
 returns : tie.Need-returns Inv-loop μ-loop
 returns c =
     let s = c .before .before .before .before .before .before .before .args .s .now in
@@ -44,15 +35,12 @@ returns c =
     sym (c .before .is-marked-context .ensures ∙ ap (isMarkedContext s) (c .before .before .words-of .ensures ∙ ap encode (c .before .before .before .record-at .ensures))) ∙ c .if1 .taken in
     sym (ap (λ b. b || markedBetween s (i + 1) (c .before .before .before .before .before .before .before .args .end)) here) ∙ sym (marked-more s i (c .before .before .before .before .before .before .before .args .end) (c .before .before .before .before .loop-test .taken) (c .before .before .before .before .before .before .before .pre .2)) ∙ c .before .before .before .before .before .loop .inv .2
 
--- src/contexts.rt:39:9
 add-i : tie.Need-add-i Inv-loop μ-loop
 add-i c = search needs
 
--- src/contexts.rt:35:5
 loop-less : tie.Need-loop-less Inv-loop μ-loop
 loop-less c = search needs
 
--- src/contexts.rt:35:5
 loop-again : tie.Need-loop-again Inv-loop μ-loop
 loop-again c =
     let s = c .before .before .before .before .before .before .before .args .s .now in
@@ -61,7 +49,6 @@ loop-again c =
     sym (c .before .is-marked-context .ensures ∙ ap (isMarkedContext s) (c .before .before .words-of .ensures ∙ ap encode (c .before .before .before .record-at .ensures))) ∙ c .if1 .left in
     (omega arith, omega arith, sym (ap (λ b. b || markedBetween s (i + 1) (c .before .before .before .before .before .before .before .args .end)) here) ∙ sym (marked-more s i (c .before .before .before .before .before .before .before .args .end) (c .before .before .before .before .loop-test .taken) (c .before .before .before .before .before .before .before .pre .2)) ∙ c .before .before .before .before .before .loop .inv .2)
 
--- src/contexts.rt:30:1
 returns-2 : tie.Need-returns-2 Inv-loop μ-loop
 returns-2 c = sym (marked-none (c .before .before .before .args .s .now) (c .before .loop .i) (c .before .before .before .args .end) (omega arith)) ∙ c .before .loop .inv .2
 

@@ -1,84 +1,56 @@
+-- `acceptance::survey::survey` meets its contract.
 use Rattle.acceptance.proofs.Surveying.{ends-at-records, ends-at-function, ends-with-walk, said-no, said-yes}
-use Rattle.rules.specs.Refusals.{firstOf}
 use Rattle.acceptance.specs.Survey.{readable-countable, numbered-walked}
-use Rattle.acceptance.specs.Stages.{recordsPass, functionRefusals, records-readable}
-use Rattle.lists.specs.Tests.{is-true}
-use Rattle.rules.specs.Services.{isAccepted}
-use lib.Dec.{T}
-use mathlib.Core.Bool.{Bool, true, false, not}
-use mathlib.Core.Path.{_≡_, sym, ap, subst, _∙_}
+use Rattle.acceptance.specs.Stages.{records-readable}
 use borrow.Author.Needs.{needs}
 use Rattle.acceptance.proofs.survey.survey.Statement.{statement}
 use Rattle.acceptance.proofs.survey.survey.Tie as tie
-use Rattle.acceptance.proofs.survey.survey.Reads as reads
-use Rattle.acceptance.proofs.survey.survey.Lts as lts
-use Rattle.acceptance.proofs.survey.walk_blocks.Reads as walk-blocks-reads
-use Rattle.acceptance.proofs.survey.walk_verdict.Reads as walk-verdict-reads
-use Rattle.acceptance.proofs.verdict.function_verdict.Reads as function-verdict-reads
-use Rattle.acceptance.proofs.verdict.is_accepted.Reads as is-accepted-reads
-use Rattle.acceptance.proofs.verdict.records_verdict.Reads as records-verdict-reads
 
--- src/survey.rt:70:9
 records-verdict-requires : tie.Need-records-verdict-requires
 records-verdict-requires c κs = search needs
 
--- src/survey.rt:71:9
 is-accepted-requires : tie.Need-is-accepted-requires
 is-accepted-requires c κs = search needs
 
--- src/survey.rt:72:9
 returns : tie.Need-returns
 returns c = ends-at-records (c .before .before .before .before .before .before .before .before .before .before .args .s .now) _ _ _ _ _ _ _ (said-no (c .before .is-accepted .ensures) (c .before .before .records-verdict .ensures) (c .if1 .taken)) (c .before .before .records-verdict .ensures)
 
--- src/survey.rt:77:9
 function-verdict-requires : tie.Need-function-verdict-requires
 function-verdict-requires c κs = readable-countable (records-readable (c .before .before .before .before .before .before .before .before .before .before .before .args .s .now) (said-yes (c .before .before .is-accepted .ensures) (c .before .before .before .records-verdict .ensures) (c .before .if1 .left))) (c .before .before .before .before .before .before .before .before .before .before .before .pre .counts)
 
--- src/survey.rt:78:9
 is-accepted-requires-2 : tie.Need-is-accepted-requires-2
 is-accepted-requires-2 c κs = search needs
 
--- src/survey.rt:79:9
 same-length : tie.Need-same-length
 same-length c = search needs
 
--- src/survey.rt:79:9
 returns-2 : tie.Need-returns-2
 returns-2 c = ends-at-function (c .before .before .before .before .before .before .before .before .before .before .before .before .before .before .before .before .args .s .now) _ _ _ _ _ _ _ (said-yes (c .before .before .before .before .before .before .before .is-accepted .ensures) (c .before .before .before .before .before .before .before .before .records-verdict .ensures) (c .before .before .before .before .before .before .if1 .left)) _ (c .before .before .before .before .function-verdict .ensures .1) (said-no (c .before .is-accepted2 .ensures) (c .before .before .before .before .function-verdict .ensures .0) (c .if2 .taken)) (c .before .before .before .before .function-verdict .ensures .0)
 
--- src/survey.rt:84:9
 walk-blocks-requires : tie.Need-walk-blocks-requires
 walk-blocks-requires c κs = (records-readable (c .before .before .before .before .before .before .before .before .before .before .before .before .before .before .before .before .before .before .before .before .before .args .s .now) (said-yes (c .before .before .before .before .before .before .before .before .before .before .before .before .is-accepted .ensures) (c .before .before .before .before .before .before .before .before .before .before .before .before .before .records-verdict .ensures) (c .before .before .before .before .before .before .before .before .before .before .before .if1 .left)), c .before .before .before .before .before .before .before .before .before .before .before .before .before .before .before .before .before .before .before .before .before .pre .places, c .before .before .before .before .before .before .before .before .before .before .before .before .before .before .before .before .before .before .before .before .before .pre .order, c .before .before .before .before .before .before .before .before .before .before .before .before .before .before .before .before .before .before .before .before .before .pre .index, c .before .before .before .before .before .before .before .before .before .before .before .before .before .before .before .before .before .before .before .before .before .pre .stack, c .before .before .before .before .before .before .before .before .before .before .before .before .before .before .before .before .before .before .before .before .before .pre .next)
 
--- src/survey.rt:86:18
 walk-verdict-requires : tie.Need-walk-verdict-requires
 walk-verdict-requires c κs = numbered-walked (records-readable (c .before .before .before .before .before .before .before .before .before .before .before .before .before .before .before .before .before .before .before .before .before .before .before .before .before .before .before .before .before .before .before .before .before .before .args .s .now) (said-yes (c .before .before .before .before .before .before .before .before .before .before .before .before .before .before .before .before .before .before .before .before .before .before .before .before .before .is-accepted .ensures) (c .before .before .before .before .before .before .before .before .before .before .before .before .before .before .before .before .before .before .before .before .before .before .before .before .before .before .records-verdict .ensures) (c .before .before .before .before .before .before .before .before .before .before .before .before .before .before .before .before .before .before .before .before .before .before .before .before .if1 .left))) (c .before .before .before .before .before .before .before .before .before .before .before .before .before .before .before .before .before .before .before .before .before .before .before .before .before .before .before .before .before .before .before .before .before .before .pre .places .0) (c .before .before .before .before .before .before .before .before .before .before .before .before .walk-blocks .ensures .0) (c .before .before .before .before .before .before .before .before .before .before .before .before .before .before .before .before .before .before .before .before .before .before .before .before .before .before .before .before .before .before .before .before .before .before .pre .order .0) (c .before .before .before .before .before .before .before .before .before .before .before .before .walk-blocks .ensures .1 .order) (c .before .before .before .before .before .before .before .before .before .before .before .before .walk-blocks .ensures .1 .count)
 
--- src/survey.rt:58:1
 same-length-2 : tie.Need-same-length-2
 same-length-2 c = search needs
 
--- src/survey.rt:58:1
 same-length-3 : tie.Need-same-length-3
 same-length-3 c = search needs
 
--- src/survey.rt:58:1
 same-length-4 : tie.Need-same-length-4
 same-length-4 c = search needs
 
--- src/survey.rt:58:1
 same-length-5 : tie.Need-same-length-5
 same-length-5 c = search needs
 
--- src/survey.rt:58:1
 same-length-6 : tie.Need-same-length-6
 same-length-6 c = search needs
 
--- src/survey.rt:58:1
 same-length-7 : tie.Need-same-length-7
 same-length-7 c = search needs
 
--- src/survey.rt:58:1
 returns-3 : tie.Need-returns-3
 returns-3 c = ends-with-walk (c .before .before .before .before .before .before .before .before .before .before .before .before .before .before .before .before .before .before .before .before .before .before .before .before .before .before .before .before .before .before .before .before .before .before .before .args .s .now) _ _ _ _ _ _ _ (said-yes (c .before .before .before .before .before .before .before .before .before .before .before .before .before .before .before .before .before .before .before .before .before .before .before .before .before .before .is-accepted .ensures) (c .before .before .before .before .before .before .before .before .before .before .before .before .before .before .before .before .before .before .before .before .before .before .before .before .before .before .before .records-verdict .ensures) (c .before .before .before .before .before .before .before .before .before .before .before .before .before .before .before .before .before .before .before .before .before .before .before .before .before .if1 .left)) _ (c .before .before .before .before .before .before .before .before .before .before .before .before .before .before .before .before .before .before .before .before .before .before .before .function-verdict .ensures .1) (said-yes (c .before .before .before .before .before .before .before .before .before .before .before .before .before .before .before .before .before .before .before .before .is-accepted2 .ensures) (c .before .before .before .before .before .before .before .before .before .before .before .before .before .before .before .before .before .before .before .before .before .before .before .function-verdict .ensures .0) (c .before .before .before .before .before .before .before .before .before .before .before .before .before .before .before .before .before .before .before .if2 .left)) (c .walk-verdict .ensures) _ _ _ _ _ _ (c .before .before .before .before .before .before .before .before .before .before .before .before .before .walk-blocks .ensures .0) (c .before .before .before .before .before .before .before .before .before .before .before .before .before .walk-blocks .ensures .1)
 

@@ -1,44 +1,32 @@
+-- `acceptance::survey::walk_blocks` meets its contract.
 use Rattle.graph.specs.Zeros.{padded-own}
 use Rattle.graph.specs.Blocks.{blockTable}
 use Rattle.graph.specs.Room.{table-room, walk-lent}
-use native.Mathlib.Omega.{arith}
 use borrow.Author.Needs.{needs}
 use Rattle.acceptance.proofs.survey.walk_blocks.Statement.{statement}
 use Rattle.acceptance.proofs.survey.walk_blocks.Tie as tie
-use Rattle.acceptance.proofs.survey.walk_blocks.Reads as reads
-use Rattle.acceptance.proofs.survey.walk_blocks.Lts as lts
-use Rattle.graph.proofs.places.places_of.Reads as places-of-reads
-use Rattle.graph.proofs.walk.post_order.Reads as post-order-reads
 
--- src/survey.rt:53:5
 places-of-requires : tie.Need-places-of-requires
 places-of-requires c κs = let r = c .before .before .before .before .before .before .before .pre .0 in (table-room (c .before .before .before .before .before .before .before .args .s .now) (r .few) (r .inOrder) (r .inFile) _ (c .before .before .before .before .before .before .before .pre .1 .0), c .before .before .before .before .before .before .before .pre .1 .1)
 
--- src/survey.rt:54:5
 post-order-requires : tie.Need-post-order-requires
 post-order-requires c κs = let r = c .before .before .before .before .before .before .before .before .before .before .before .before .before .before .before .pre .0 in walk-lent (c .before .before .before .before .before .before .before .before .before .before .before .before .before .before .before .args .s .now) (r .few) (r .inOrder) (r .inFile) _ _ _ _ _ (padded-own _ (blockTable (c .before .before .before .before .before .before .before .before .before .before .before .before .before .before .before .args .s .now)) _ (c .before .before .before .before .before .before .before .places-of .ensures .1) (search needs)) (c .before .before .before .before .before .before .before .before .before .before .before .before .before .before .before .pre .2) (c .before .before .before .before .before .before .before .before .before .before .before .before .before .before .before .pre .3) (c .before .before .before .before .before .before .before .before .before .before .before .before .before .before .before .pre .4) (c .before .before .before .before .before .before .before .before .before .before .before .before .before .before .before .pre .5)
 
--- src/survey.rt:42:1
 same-length : tie.Need-same-length
 same-length c = search needs
 
--- src/survey.rt:42:1
 same-length-2 : tie.Need-same-length-2
 same-length-2 c = search needs
 
--- src/survey.rt:42:1
 same-length-3 : tie.Need-same-length-3
 same-length-3 c = search needs
 
--- src/survey.rt:42:1
 same-length-4 : tie.Need-same-length-4
 same-length-4 c = search needs
 
--- src/survey.rt:42:1
 same-length-5 : tie.Need-same-length-5
 same-length-5 c = search needs
 
--- src/survey.rt:42:1
 returns : tie.Need-returns
 returns c = (c .before .before .before .before .before .before .before .before .before .before .before .before .before .before .before .before .places-of .ensures .1, c .before .before .before .before .before .before .before .before .post-order .ensures)
 

@@ -1,3 +1,4 @@
+-- `acceptance::survey::walk_verdict` meets its contract.
 use Rattle.acceptance.specs.Stages.{walk-only}
 use Rattle.rules.specs.declared.Verdict.the-variants as verdict
 use Rattle.rules.specs.declared.Verdict.{Verdict}
@@ -6,19 +7,13 @@ use mathlib.Core.Path.{sym, ap, _∙_}
 use borrow.Author.Needs.{needs}
 use Rattle.acceptance.proofs.survey.walk_verdict.Statement.{statement}
 use Rattle.acceptance.proofs.survey.walk_verdict.Tie as tie
-use Rattle.acceptance.proofs.survey.walk_verdict.Reads as reads
-use Rattle.acceptance.proofs.survey.walk_verdict.Lts as lts
-use Rattle.acceptance.proofs.contexts.marked_context.Reads as marked-context-reads
 
--- src/survey.rt:35:8
 marked-context-requires : tie.Need-marked-context-requires
 marked-context-requires c κs = search needs
 
--- src/survey.rt:36:9
 returns : tie.Need-returns
 returns c = sym (walk-only (c .before .before .before .before .before .args .s .now) ∙ ap (λ b. elim b as (λ _. Verdict) [ true ↦ verdict.MarkedContext | false ↦ verdict.Accepted ]) (sym (c .before .marked-context .ensures) ∙ c .if1 .taken))
 
--- src/survey.rt:31:1
 returns-2 : tie.Need-returns-2
 returns-2 c = sym (walk-only (c .before .before .before .before .before .args .s .now) ∙ ap (λ b. elim b as (λ _. Verdict) [ true ↦ verdict.MarkedContext | false ↦ verdict.Accepted ]) (sym (c .before .marked-context .ensures) ∙ c .if1 .left))
 

@@ -1,45 +1,34 @@
+-- `acceptance::verdict::function_verdict` meets its contract.
 use Rattle.rules.specs.declared.Verdict.the-variants as verdict
 use Rattle.rules.specs.declared.Verdict.{Verdict}
 use Rattle.acceptance.specs.Stages.{function-twice, function-last}
-use mathlib.Core.Bool.{true, false, not}
-use mathlib.Core.Path.{_≡_, refl, sym, ap, _∙_}
+use mathlib.Core.Bool.{true, false}
+use mathlib.Core.Path.{sym, ap, _∙_}
 use borrow.Author.Needs.{needs}
 use Rattle.acceptance.proofs.verdict.function_verdict.Statement.{statement}
 use Rattle.acceptance.proofs.verdict.function_verdict.Tie as tie
-use Rattle.acceptance.proofs.verdict.function_verdict.Reads as reads
-use Rattle.acceptance.proofs.verdict.function_verdict.Lts as lts
-use Rattle.checks.proofs.definitions.not_defined_once.Reads as not-defined-once-reads
-use Rattle.checks.proofs.soundness.unsound.Reads as unsound-reads
 
--- src/verdict.rt:60:8
 not-defined-once-requires : tie.Need-not-defined-once-requires
 not-defined-once-requires c κs = search needs
 
--- src/verdict.rt:61:9
 same-length : tie.Need-same-length
 same-length c = search needs
 
--- src/verdict.rt:61:9
 returns : tie.Need-returns
 returns c = (sym (function-twice (c .before .before .before .before .before .before .before .args .s .now) (sym (c .before .before .before .not-defined-once .ensures .0) ∙ c .if1 .taken)), c .before .before .before .not-defined-once .ensures .1)
 
--- src/verdict.rt:63:8
 unsound-requires : tie.Need-unsound-requires
 unsound-requires c κs = c .before .before .before .before .before .before .before .pre .inOrder
 
--- src/verdict.rt:64:9
 same-length-2 : tie.Need-same-length-2
 same-length-2 c = search needs
 
--- src/verdict.rt:64:9
 returns-2 : tie.Need-returns-2
 returns-2 c = (sym (function-last (c .before .before .before .before .before .before .before .before .before .args .s .now) (sym (c .before .before .before .before .before .not-defined-once .ensures .0) ∙ c .before .before .if1 .left) ∙ ap (λ b. elim b as (λ _. Verdict) [ true ↦ verdict.Unsound | false ↦ verdict.Accepted ]) (sym (c .before .unsound .ensures) ∙ c .if2 .taken)), c .before .before .before .before .before .not-defined-once .ensures .1)
 
--- src/verdict.rt:56:1
 same-length-3 : tie.Need-same-length-3
 same-length-3 c = search needs
 
--- src/verdict.rt:56:1
 returns-3 : tie.Need-returns-3
 returns-3 c = (sym (function-last (c .before .before .before .before .before .before .before .before .before .args .s .now) (sym (c .before .before .before .before .before .not-defined-once .ensures .0) ∙ c .before .before .if1 .left) ∙ ap (λ b. elim b as (λ _. Verdict) [ true ↦ verdict.Unsound | false ↦ verdict.Accepted ]) (sym (c .before .unsound .ensures) ∙ c .if2 .left)), c .before .before .before .before .before .not-defined-once .ensures .1)
 

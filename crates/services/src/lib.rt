@@ -1,0 +1,2 @@
+// The public services. Each takes any bytes, owns the tables that it needs, and asks nothing of its caller.
+pub mod check;
