@@ -270,7 +270,7 @@ module _ (size : ℕ → ℕ) where
       let held : Holding (λ w. Unit {0} × (freed w ss ≡ 0)) (replayed size ss noSlots) =
       replayed-holding {Open = λ _. Unit} ss once (λ w l. tt) noSlots-holding in
       let in-the-end : (w s : ℕ) → HasSlot (replayed size ss noSlots) w s
-          → orElse 0 (replayed size (ss ++ rest) noSlots .slotOf w) ≡ s =
+      → orElse 0 (replayed size (ss ++ rest) noSlots .slotOf w) ≡ s =
       λ w s has.
       ap (λ (p : StackSlots). orElse 0 (p .slotOf w)) (replayed-append size ss rest noSlots)
       ∙ ap (orElse 0) (replayed-keeps rest (replayed size ss noSlots) has) in

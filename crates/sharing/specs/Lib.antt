@@ -1,2 +1,3 @@
 pub mod SlotSteps
 pub mod Holding
+pub mod Replaying
