@@ -1,3 +1,4 @@
 pub mod SlotSteps
 pub mod Holding
 pub mod Replaying
+pub mod LiveDominated
