@@ -2,3 +2,4 @@ pub mod SlotSteps
 pub mod Holding
 pub mod Replaying
 pub mod LiveDominated
+pub mod Once
