@@ -3,3 +3,4 @@ pub mod Holding
 pub mod Replaying
 pub mod LiveDominated
 pub mod Once
+pub mod Spilled
