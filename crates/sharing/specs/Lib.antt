@@ -4,3 +4,4 @@ pub mod Replaying
 pub mod LiveDominated
 pub mod Once
 pub mod Spilled
+pub mod Points
