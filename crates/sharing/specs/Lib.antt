@@ -5,3 +5,4 @@ pub mod LiveDominated
 pub mod Once
 pub mod Spilled
 pub mod Points
+pub mod Turns
