@@ -6,3 +6,4 @@ pub mod Once
 pub mod Spilled
 pub mod Points
 pub mod Turns
+pub mod Sharing
