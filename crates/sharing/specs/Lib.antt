@@ -7,3 +7,4 @@ pub mod Spilled
 pub mod Points
 pub mod Turns
 pub mod Sharing
+pub mod Stored
