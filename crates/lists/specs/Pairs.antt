@@ -1,5 +1,5 @@
 -- Two lists member by member.
-use mathlib.Core.Path.{_≡_, ap, sym, subst}
+use mathlib.Core.Path.{sym, subst}
 use mathlib.Core.List.{List, [], _∷_}
 use Rattle.rules.specs.Lists.{zipWith}
 use Rattle.lists.specs.Members.{_∈_, not-∈-nil, ∈-elim}

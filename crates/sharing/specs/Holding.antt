@@ -5,18 +5,17 @@ use Prim.Native.Nat.{ℕ, _+_, _≤_, _<_}
 use native.Mathlib.Omega.{arith}
 use mathlib.Core.Path.{_≡_, refl, sym, ap, subst, _∙_}
 use mathlib.Core.Logic.{_⊎_, inl, inr, _≢_, ⊎-elim}
-use mathlib.Core.Bool.{Bool}
 use mathlib.Core.Option.{Option, none, some, Option·some-injective, Option·none-ne-some}
-use mathlib.Core.List.{List, [], _∷_, _++_, List·Nodup, nodup-cons, Pairwise·nil, Pairwise·cons}
+use mathlib.Core.List.{List, [], _∷_, _++_, List·Nodup, nodup-cons, Pairwise·nil}
 use lib.ListN.{length, length-append}
-use lib.Dec.{T, eqb, eqb→eq}
+use lib.Dec.{eqb}
 use Rattle.rules.specs.Lists.{update, orElse}
 use Rattle.rules.specs.Records.{bit}
 use Rattle.rules.specs.Slots.{StackSlots, noSlots, slotFrom, giveSlot, freeSlot}
 use Rattle.lists.specs.Tests.{neqb→ne, eq→eqb, is-true}
 use Rattle.lists.specs.Counts.{count-more}
 use Rattle.lists.specs.Members.{_∈_, here, there, find, not-∈-nil, ∈-elim}
-use Rattle.fixpoint.specs.Finding.{update-elim, update-here, update-there}
+use Rattle.fixpoint.specs.Finding.{update-elim, update-here}
 use Rattle.sharing.specs.SlotSteps.{SlotStep, gives, frees, freeOwn, taken, replayed, replayed-append, isFreeOf, freed}
 
 -- value u has slot s

@@ -5,6 +5,7 @@ pub mod LiveDominated
 pub mod Once
 pub mod Spilled
 pub mod Points
+pub mod Freeing
 pub mod Turns
 pub mod Sharing
 pub mod Stored

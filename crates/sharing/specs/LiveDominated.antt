@@ -8,12 +8,12 @@ use mathlib.Core.List.{List, [], _∷_, _++_, append-assoc, List·Memᴰ·append
 use lib.Dec.{T, T-not}
 use Rattle.rules.specs.Lists.{keep, concatMap, has, NumberSet}
 use Rattle.rules.specs.Tree.{Instruction, Function}
-use Rattle.rules.specs.Graph.{blockAt, isMarked, instructionsOf, valuesPassed, successors}
+use Rattle.rules.specs.Graph.{blockAt, isMarked, instructionsOf, valuesPassed}
 use Rattle.rules.specs.Liveness.{beforeAll, through, LiveOut, LiveIn, successor, rule, process}
 use Rattle.rules.specs.Demand3.{PathTo, onward, resultsOf, definedIn, Dominated}
 use Rattle.lists.specs.Tests.{and-left, and-right, or-elim}
 use Rattle.lists.specs.Maps.{concatMap-append}
-use Rattle.lists.specs.Members.{_∈_, here, there, not-∈-nil, has→∈, ∈→has}
+use Rattle.lists.specs.Members.{_∈_, not-∈-nil, has→∈, ∈→has}
 use Rattle.walks.specs.Reachable.{path→reachable}
 use Rattle.fixpoint.specs.Finding.{keep-∈}
 use Rattle.fixpoint.specs.Answer.{process-ins-live, process-outs-live}

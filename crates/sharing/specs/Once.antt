@@ -4,7 +4,7 @@ use native.Mathlib.Omega.{arith}
 use mathlib.Core.Path.{_≡_, refl, sym, ap, subst, _∙_}
 use mathlib.Core.Logic.{_≢_}
 use mathlib.Core.Bool.{Bool, false, not}
-use mathlib.Core.List.{List, [], _∷_, _++_, List·Nodup, nodup-cons, append-assoc, Memᴰ·append-left, Memᴰ·append-right}
+use mathlib.Core.List.{List, [], _∷_, _++_, List·Nodup, nodup-cons, append-assoc, Memᴰ·append-left}
 use lib.ListN.{length, getD}
 use lib.Dec.{T, T-not, not-T, eqb, eqb→eq, ltb, ltb→lt}
 use Rattle.rules.specs.Lists.{all, count, concatMap, has, upFrom}

@@ -9,15 +9,15 @@ use Rattle.rules.specs.Lists.{any, keep, concatMap, zipWith, members}
 use Rattle.rules.specs.Tree.{Edge, Instruction, Function}
 use Rattle.rules.specs.Graph.{blockAt, sizeOf, valuesAmong, reachable}
 use Rattle.rules.specs.Liveness.{process, listedInstructions, isSpilled}
-use Rattle.rules.specs.Slots.{StackSlots, noSlots}
-use Rattle.rules.specs.Plan.{Plan, Made, EdgePlan, InstructionPlan, BlockPlan, Planning, _>>=_, pure, forEach, forEachBackward}
+use Rattle.rules.specs.Slots.{noSlots}
+use Rattle.rules.specs.Plan.{Plan, EdgePlan, Planning, _>>=_, pure, forEach, forEachBackward}
 use Rattle.rules.specs.Plan.{newBlock, planSlot, planStore, planDefinition, planLoad, planUse, planEdgeUse, planEdge, planLanded}
 use Rattle.rules.specs.Plan.{planLanding, planSafepointEdge, planInstruction, planBlock, planned}
 use Rattle.rules.specs.declared.EdgeArgument.{EdgeArgument}
 use Rattle.rules.specs.declared.EdgeArgument.the-variants as passes
 use Rattle.sharing.specs.SlotSteps.{SlotStep, gives, frees, freeOwn, replayed, replayed-append, lastFirst}
 use Rattle.sharing.specs.SlotSteps.{definitionSteps, useSteps, edgeUseSteps, edgeSteps, landingSteps}
-use Rattle.sharing.specs.SlotSteps.{safepointEdgeSteps, instructionSteps, outSteps, blockSteps, slotSteps}
+use Rattle.sharing.specs.SlotSteps.{safepointEdgeSteps, instructionSteps, blockSteps, slotSteps}
 
 module _ (f : Function) where
   -- a step of planning does to slots what these steps do

@@ -15,10 +15,10 @@ use Rattle.rules.specs.Rewriting.{slotNumber}
 use Rattle.rules.specs.Refusals.{numbersInFile, definedOnce}
 use Rattle.rules.specs.Demand3.{resultsOf, Dominated}
 use Rattle.lists.specs.Members.{_∈_, here, ∈-concatMap}
-use Rattle.sharing.specs.SlotSteps.{SlotStep, gives, replayed, outSteps, blockSteps, slotSteps}
+use Rattle.sharing.specs.SlotSteps.{gives, replayed, blockSteps}
 use Rattle.sharing.specs.Holding.{held-slots-differ}
 use Rattle.sharing.specs.Replaying.{planned-slots}
-use Rattle.sharing.specs.Points.{behindSteps, pointSteps, pointSteps-lead, live-given}
+use Rattle.sharing.specs.Points.{pointSteps, pointSteps-lead, live-given}
 use Rattle.sharing.specs.Turns.{Turn, turn-of, turn-reachable, freed-once, defined-unfreed, live-unfreed, parameter-given, result-given}
 
 -- A cut just behind the definitions of one instruction, or of the parameters, of a reachable block: the block, the values

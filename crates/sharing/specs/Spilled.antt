@@ -3,12 +3,12 @@
 use Prim.Native.Nat.{ℕ, _<_}
 use native.Mathlib.Omega.{arith}
 use mathlib.Core.Path.{_≡_, refl, sym, ap, subst, _∙_}
-use mathlib.Core.Bool.{Bool, true, false, not, cond}
+use mathlib.Core.Bool.{Bool, true, false, cond}
 use mathlib.Core.Option.{Option, none, some}
 use mathlib.Core.List.{List, [], _∷_, _++_, map, Memᴰ·append-right}
 use lib.ListN.{length, List·getD-eq-default}
 use lib.Dec.{T, ltb, ltb→lt, nltb→le}
-use Rattle.rules.specs.Lists.{any, keep, orElse, concatMap, zipWith, has, upFrom, NumberSet, members}
+use Rattle.rules.specs.Lists.{keep, orElse, zipWith, has, upFrom, NumberSet, members}
 use Rattle.rules.specs.Tree.{Instruction, Block, Function}
 use Rattle.rules.specs.Graph.{blockAt, isMarked, instructionsOf, reachable}
 use Rattle.rules.specs.Liveness.{across, before, beforeAll, process, listsAmong, listsOf, listedInstructions, lists, isSpilled}

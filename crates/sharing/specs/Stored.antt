@@ -18,9 +18,9 @@ use Rattle.rules.specs.Demand3.{Dominated}
 use Rattle.lists.specs.Members.{_∈_, here, there}
 use Rattle.lists.specs.Maps.{concatMap-append}
 use Rattle.lists.specs.Pairs.{Each}
-use Rattle.sharing.specs.SlotSteps.{SlotStep, gives, replayed, replayed-append, lastFirst, definitionSteps, instructionSteps, outSteps, blockSteps}
+use Rattle.sharing.specs.SlotSteps.{gives, replayed, replayed-append, lastFirst, definitionSteps, instructionSteps, outSteps, blockSteps}
 use Rattle.sharing.specs.Holding.{HasSlot, replayed-keeps, replayed-has}
-use Rattle.sharing.specs.Replaying.{Replays, replays-backward, replays-slots, replays-definition, replays-instruction, replays-block}
+use Rattle.sharing.specs.Replaying.{replays-backward, replays-slots, replays-definition, replays-instruction, replays-block}
 use Rattle.sharing.specs.Spilled.{listedInstructions-reachable}
 use Rattle.sharing.specs.Points.{listed, behindSteps, pointSteps}
 use Rattle.sharing.specs.Turns.{Turn, turn-reachable, parameter-given, result-given}

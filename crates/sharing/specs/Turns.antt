@@ -9,24 +9,24 @@ use mathlib.Core.HLevel.{¬-prop}
 use mathlib.Core.List.{List, [], _∷_, _++_, append-assoc, tail-eq-of-cons-eq, List·Nodup}
 use mathlib.Core.List.{List·Mem, Pairwise, pairwise-append, pairwise-cons, List·Memᴰ·append-cases, Memᴰ·append-left, Memᴰ·append-right}
 use lib.Dec.{T, eqb, eqb→eq}
-use Rattle.rules.specs.Lists.{concatMap, count}
+use Rattle.rules.specs.Lists.{concatMap}
 use Rattle.rules.specs.Tree.{Instruction, Function}
 use Rattle.rules.specs.Graph.{blockAt, instructionsOf, reachable}
-use Rattle.rules.specs.Liveness.{across, beforeAll, process, isSpilled}
+use Rattle.rules.specs.Liveness.{beforeAll, process, isSpilled}
 use Rattle.rules.specs.Refusals.{numbersInFile, definedOnce}
-use Rattle.rules.specs.Demand3.{PathTo, resultsOf, definedIn, Dominated}
+use Rattle.rules.specs.Demand3.{resultsOf, definedIn, Dominated}
 use Rattle.lists.specs.Tests.{test-elim, neqb→ne}
 use Rattle.lists.specs.Counts.{count-append}
 use Rattle.lists.specs.Maps.{concatMap-append}
 use Rattle.lists.specs.Members.{_∈_, here, there, ∈-elim, ∈-concatMap, ∈-concatMap-from}
 use Rattle.walks.specs.Paths.{Dominates, StrictlyDominates, strictly-dominates}
 use Rattle.walks.specs.Reachable.{reachable→path, reachable-nodup, reachable-ordered, strict-dominator-ne, dominator-not-before}
-use Rattle.sharing.specs.SlotSteps.{SlotStep, gives, isFreeOf, freed, outSteps, blockSteps, slotSteps}
+use Rattle.sharing.specs.SlotSteps.{gives, isFreeOf, freed, outSteps, blockSteps, slotSteps}
 use Rattle.sharing.specs.LiveDominated.{live-dominated}
 use Rattle.sharing.specs.Once.{same-block, others-define-none, blocks-define-once, later-define-none, ∈→count, not-∈→count}
 use Rattle.sharing.specs.Spilled.{Across, across-before, spilled-across}
 use Rattle.sharing.specs.Points.{behindSteps, behindSteps-more, pointSteps, blockSteps-lead, pointSteps-lead, live-given}
-use Rattle.sharing.specs.Points.{blocks-free, point-frees}
+use Rattle.sharing.specs.Freeing.{blocks-free, point-frees}
 
 -- a member stands behind some and before others
 ∈-split : {A : Type 0} {x : A} {l : List A} → x ∈ l → (before : List A) × (behind : List A) × (l ≡ before ++ (x ∷ behind))
