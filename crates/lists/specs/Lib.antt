@@ -7,3 +7,4 @@ pub mod Lack
 pub mod Alls
 pub mod Truths
 pub mod Pairs
+pub mod Splits

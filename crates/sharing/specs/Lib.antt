@@ -7,5 +7,6 @@ pub mod Spilled
 pub mod Points
 pub mod Freeing
 pub mod Turns
+pub mod Held
 pub mod Sharing
 pub mod Stored

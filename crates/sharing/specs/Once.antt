@@ -4,7 +4,7 @@ use native.Mathlib.Omega.{arith}
 use mathlib.Core.Path.{_≡_, refl, sym, ap, subst, _∙_}
 use mathlib.Core.Logic.{_≢_}
 use mathlib.Core.Bool.{Bool, false, not}
-use mathlib.Core.List.{List, [], _∷_, _++_, List·Nodup, nodup-cons, append-assoc, Memᴰ·append-left}
+use mathlib.Core.List.{List, [], _∷_, _++_, List·Nodup, nodup-cons, append-assoc, Memᴰ·append-left, Memᴰ·append-right}
 use lib.ListN.{length, getD}
 use lib.Dec.{T, T-not, not-T, eqb, eqb→eq, ltb, ltb→lt}
 use Rattle.rules.specs.Lists.{all, count, concatMap, has, upFrom}
@@ -90,6 +90,23 @@ count-definitions v (b ∷ bs) =
       parted,
       count-append (eqb v) (resultsOf (instructionsOf b)) (resultsOf rest),
     )
+
+-- A block defines what its parameters and earlier instructions define,
+module _ (f : Function) (b : ℕ) (earlier later : List Instruction) (split : instructionsOf (blockAt f b) ≡ earlier ++ later) where
+  parts-defined : {v : ℕ} → v ∈ blockAt f b .parameters ++ (resultsOf earlier ++ resultsOf later) → v ∈ definedIn f b
+  parts-defined {v} m =
+      subst (λ is. v ∈ blockAt f b .parameters ++ resultsOf is) (sym split)
+      (subst (λ l. v ∈ blockAt f b .parameters ++ l) (sym (concatMap-append (λ i. i .results) earlier later)) m)
+
+  pub earlier-defined : {v : ℕ} → v ∈ blockAt f b .parameters ++ resultsOf earlier → v ∈ definedIn f b
+  earlier-defined {v} m =
+      parts-defined
+      (subst (λ l. v ∈ l) (append-assoc (blockAt f b .parameters) (resultsOf earlier) (resultsOf later))
+      (Memᴰ·append-left (resultsOf later) m))
+
+  -- and what later ones do.
+  pub later-defined : {v : ℕ} → v ∈ resultsOf later → v ∈ definedIn f b
+  later-defined m = parts-defined (Memᴰ·append-right (blockAt f b .parameters) (Memᴰ·append-right (resultsOf earlier) m))
 
 module _ (f : Function) (once : T (definedOnce f)) (in-file : T (numbersInFile f)) where
   -- each number is defined at most once,

@@ -23,7 +23,8 @@ use Rattle.sharing.specs.Holding.{HasSlot, replayed-keeps, replayed-has}
 use Rattle.sharing.specs.Replaying.{replays-backward, replays-slots, replays-definition, replays-instruction, replays-block}
 use Rattle.sharing.specs.Spilled.{listedInstructions-reachable}
 use Rattle.sharing.specs.Points.{listed, behindSteps, pointSteps}
-use Rattle.sharing.specs.Turns.{Turn, turn-reachable, parameter-given, result-given}
+use Rattle.sharing.specs.Turns.{Turn, turn-reachable}
+use Rattle.sharing.specs.Held.{parameter-given, result-given}
 
 -- a definition has a number, of the address of its store, exactly if its value is spilled
 abbrev pub Stored : Function → ℕ → Made → Type 0

@@ -1,45 +1,24 @@
--- When planning comes to a definition. Blocks are planned by index, so a block's dominators come after it; and a block's
--- instructions last first. So what is live at a point is not yet freed there: its definition dominates the point. And a
--- spilled value has been given a slot when planning comes to its definition, which dominates a safepoint that lists it.
-use Prim.Native.Nat.{ℕ, _≤_}
-use native.Mathlib.Omega.{arith}
-use mathlib.Core.Path.{_≡_, refl, sym, ap, subst, _∙_}
+-- Planning's order: blocks by index. Each reachable block has one turn, and comes behind the blocks that it strictly
+-- dominates. So what is live at a point of a block is defined before it in the block, or in a block still to come.
+use Prim.Native.Nat.{ℕ}
+use mathlib.Core.Path.{_≡_, refl, sym, subst}
 use mathlib.Core.Logic.{_⊎_, inl, inr, _≢_, ⊎-elim}
 use mathlib.Core.HLevel.{¬-prop}
-use mathlib.Core.List.{List, [], _∷_, _++_, append-assoc, tail-eq-of-cons-eq, List·Nodup}
-use mathlib.Core.List.{List·Mem, Pairwise, pairwise-append, pairwise-cons, List·Memᴰ·append-cases, Memᴰ·append-left, Memᴰ·append-right}
-use lib.Dec.{T, eqb, eqb→eq}
+use mathlib.Core.List.{List, [], _∷_, _++_, List·Nodup}
+use mathlib.Core.List.{Pairwise, pairwise-append, pairwise-cons, List·Memᴰ·append-cases, Memᴰ·append-right}
+use lib.Dec.{T}
 use Rattle.rules.specs.Lists.{concatMap}
 use Rattle.rules.specs.Tree.{Instruction, Function}
 use Rattle.rules.specs.Graph.{blockAt, instructionsOf, reachable}
-use Rattle.rules.specs.Liveness.{beforeAll, process, isSpilled}
+use Rattle.rules.specs.Liveness.{beforeAll, process}
 use Rattle.rules.specs.Refusals.{numbersInFile, definedOnce}
 use Rattle.rules.specs.Demand3.{resultsOf, definedIn, Dominated}
-use Rattle.lists.specs.Tests.{test-elim, neqb→ne}
-use Rattle.lists.specs.Counts.{count-append}
-use Rattle.lists.specs.Maps.{concatMap-append}
-use Rattle.lists.specs.Members.{_∈_, here, there, ∈-elim, ∈-concatMap, ∈-concatMap-from}
+use Rattle.lists.specs.Splits.{∈-split}
+use Rattle.lists.specs.Members.{_∈_, here, ∈-elim, ∈-concatMap-from}
 use Rattle.walks.specs.Paths.{Dominates, StrictlyDominates, strictly-dominates}
-use Rattle.walks.specs.Reachable.{reachable→path, reachable-nodup, reachable-ordered, strict-dominator-ne, dominator-not-before}
-use Rattle.sharing.specs.SlotSteps.{gives, isFreeOf, freed, outSteps, blockSteps, slotSteps}
+use Rattle.walks.specs.Reachable.{reachable→path, reachable-nodup, reachable-ordered, strict-dominator-ne}
 use Rattle.sharing.specs.LiveDominated.{live-dominated}
-use Rattle.sharing.specs.Once.{same-block, others-define-none, blocks-define-once, later-define-none, ∈→count, not-∈→count}
-use Rattle.sharing.specs.Spilled.{Across, across-before, spilled-across}
-use Rattle.sharing.specs.Points.{behindSteps, behindSteps-more, pointSteps, blockSteps-lead, pointSteps-lead, live-given}
-use Rattle.sharing.specs.Freeing.{blocks-free, point-frees}
-
--- a member stands behind some and before others
-∈-split : {A : Type 0} {x : A} {l : List A} → x ∈ l → (before : List A) × (behind : List A) × (l ≡ before ++ (x ∷ behind))
-∈-split (here {xs = l} e) = ([], l, ap (λ y. y ∷ l) (sym e))
-∈-split (there {x = y} m) = let r = ∈-split m in (y ∷ r .0, r .1, ap (λ l. y ∷ l) (r .2))
-
--- of two ends of a list one is an end of the other
-ends-compare :
-    {A : Type 0} (ws xs ys zs : List A) → ws ++ xs ≡ ys ++ zs
-    → ((ms : List A) × (xs ≡ ms ++ zs)) ⊎ ((ms : List A) × (ms ++ xs ≡ zs))
-ends-compare [] xs ys zs e = inl (ys, e)
-ends-compare (w ∷ ws) xs [] zs e = inr (w ∷ ws, e)
-ends-compare (w ∷ ws) xs (y ∷ ys) zs e = ends-compare ws xs ys zs (tail-eq-of-cons-eq e)
+use Rattle.sharing.specs.Once.{earlier-defined, same-block}
 
 -- the turn of block b: what is planned before it, and behind it
 pub record Turn (f : Function) (b : ℕ) : Type 0 where
@@ -47,219 +26,53 @@ pub record Turn (f : Function) (b : ℕ) : Type 0 where
   pub behind : List ℕ
   pub turn : reachable f ≡ planned ++ (b ∷ behind)
 
--- a reachable block has its turn, and only such a block
+-- A reachable block has its turn, and only such a block,
 pub turn-of : (f : Function) {b : ℕ} → b ∈ reachable f → Turn f b
 turn-of f m = let r = ∈-split m in record { planned = r .0; behind = r .1; turn = r .2 }
 
 pub turn-reachable : {f : Function} {b : ℕ} → Turn f b → b ∈ reachable f
 turn-reachable {b = b} t = subst (λ l. b ∈ l) (sym (t .turn)) (Memᴰ·append-right (t .planned) (here refl))
 
--- once
-turn-new : {f : Function} {b : ℕ} (t : Turn f b) → b ∈ t .planned → ⊥
+-- once,
+pub turn-new : {f : Function} {b : ℕ} (t : Turn f b) → b ∈ t .planned → ⊥
 turn-new {f} {b} t m =
     pairwise-append (λ x y. ¬-prop) .0 (subst (λ l. List·Nodup l) (t .turn) (reachable-nodup f)) .2
     b ∣ m ∣₁ b ∣ here refl ∣₁ refl
 
--- and behind the blocks that it strictly dominates
-dominated-planned : {f : Function} {b c : ℕ} (t : Turn f b) → StrictlyDominates f b c → c ∈ reachable f → c ∈ t .planned
+-- and behind the blocks that it strictly dominates.
+pub dominated-planned : {f : Function} {b c : ℕ} (t : Turn f b) → StrictlyDominates f b c → c ∈ reachable f → c ∈ t .planned
 dominated-planned {f} {b} {c} t strict m =
     ⊎-elim (λ k. k)
     (∈-elim (λ e. absurd (strict-dominator-ne f m strict (sym e)))
-    (λ k. absurd (pairwise-cons .0 (ordered .1) .0 c ∣ k ∣₁ (strictly-dominates strict))))
+    (λ k.
+    absurd
+    (pairwise-cons .0
+    (pairwise-append (λ x y. ¬-prop) {l₁ = t .planned} .0
+    (subst (Pairwise (λ x y. ¬ Dominates f x y)) (t .turn) (reachable-ordered f)) .1)
+    .0 c ∣ k ∣₁ (strictly-dominates strict))))
     (List·Memᴰ·append-cases (t .planned) (subst (λ l. c ∈ l) (t .turn) m))
-  where
-    ordered : Pairwise (λ x y. ¬ Dominates f x y) (t .planned) × Pairwise (λ x y. ¬ Dominates f x y) (b ∷ t .behind) × ((x : ℕ) → List·Mem x (t .planned) → (y : ℕ) → List·Mem y (b ∷ t .behind) → ¬ Dominates f x y)
-    ordered = pairwise-append (λ x y. ¬-prop) .0 (subst (Pairwise (λ x y. ¬ Dominates f x y)) (t .turn) (reachable-ordered f))
 
-module _ (f : Function) (once : T (definedOnce f)) (in-file : T (numbersInFile f)) where
-  -- what parameters and earlier instructions define, the block defines
-  defined-earlier :
-      {v : ℕ} (b : ℕ) (earlier later : List Instruction) → instructionsOf (blockAt f b) ≡ earlier ++ later
-      → v ∈ blockAt f b .parameters ++ resultsOf earlier → v ∈ definedIn f b
-  defined-earlier {v} b earlier later split m =
-      subst (λ is. v ∈ blockAt f b .parameters ++ resultsOf is) (sym split)
-      (⊎-elim (Memᴰ·append-left (resultsOf (earlier ++ later)))
-      (λ k. Memᴰ·append-right (blockAt f b .parameters) (results-left k))
-      (List·Memᴰ·append-cases (blockAt f b .parameters) m))
+module _ (f : Function) (once : T (definedOnce f)) (in-file : T (numbersInFile f)) (dominated : Dominated f) where
+  -- WHERE A LIVE VALUE IS DEFINED: before the point in its block, or in a block that strictly dominates this one.
+  pub live-definer :
+      {b v : ℕ} → b ∈ reachable f → (earlier later : List Instruction) → instructionsOf (blockAt f b) ≡ earlier ++ later
+      → T (beforeAll f later (process f .outs b) v)
+      → (v ∈ blockAt f b .parameters ++ resultsOf earlier) ⊎ ((d : ℕ) × StrictlyDominates f d b × (v ∈ definedIn f d))
+  live-definer {b} {v} m earlier later split t =
+      let q = reachable→path f m in
+      ⊎-elim
+      (λ k.
+      let r = ∈-concatMap-from (definedIn f) (q .passed) k in
+      let off : r .0 ≢ b = q .along (r .0) (r .1) .1 in
+      inr (r .0, strictly (r .0) off (r .2), r .2))
+      inl
+      (List·Memᴰ·append-cases (concatMap (definedIn f) (q .passed)) (live-dominated dominated earlier later split (q .path) t))
     where
-      results-left : v ∈ resultsOf earlier → v ∈ resultsOf (earlier ++ later)
-      results-left k =
-          subst (λ l. v ∈ l) (sym (concatMap-append (λ i. i .results) earlier later)) (Memᴰ·append-left (resultsOf later) k)
-
-  module _ (dominated : Dominated f) where
-    -- WHERE A LIVE VALUE IS DEFINED: before the point in its block, or in a block that strictly dominates this one.
-    pub live-definer :
-        {b v : ℕ} → b ∈ reachable f → (earlier later : List Instruction) → instructionsOf (blockAt f b) ≡ earlier ++ later
-        → T (beforeAll f later (process f .outs b) v)
-        → (v ∈ blockAt f b .parameters ++ resultsOf earlier) ⊎ ((d : ℕ) × StrictlyDominates f d b × (v ∈ definedIn f d))
-    live-definer {b} {v} m earlier later split t =
-        let q = reachable→path f m in
-        ⊎-elim
-        (λ k.
-        let r = ∈-concatMap-from (definedIn f) (q .passed) k in
-        let off : r .0 ≢ b = q .along (r .0) (r .1) .1 in
-        inr (r .0, strictly (r .0) off (r .2), r .2))
-        inl
-        (List·Memᴰ·append-cases (concatMap (definedIn f) (q .passed)) (live-dominated dominated earlier later split (q .path) t))
-      where
-        strictly : (d : ℕ) → d ≢ b → v ∈ definedIn f d → StrictlyDominates f d b
-        strictly d off m passed p =
-            ⊎-elim
-            (λ k.
-            let r = ∈-concatMap-from (definedIn f) passed k in
-            subst (λ x. x ∈ passed) (same-block f once in-file (r .2) m) (r .1))
-            (λ k. absurd (off (same-block f once in-file m (defined-earlier b earlier later split k))))
-            (List·Memᴰ·append-cases (concatMap (definedIn f) passed) (live-dominated dominated earlier later split p t))
-
-  -- When it is the turn of b, and planning comes to a point in it:
-  module _ {b : ℕ} (at : Turn f b) where
-    module _ (earlier later : List Instruction) (split : instructionsOf (blockAt f b) ≡ earlier ++ later) where
-      -- no value has been freed twice,
-      pub freed-once : (v : ℕ) → freed v (pointSteps f (at .planned) b later) ≤ 1
-      unfolding slotSteps
-      freed-once v =
-          let r = pointSteps-lead f (at .planned) (at .behind) (at .turn) (turn-reachable at) earlier later split in
-          let counted : freed v (slotSteps f) ≡ freed v (pointSteps f (at .planned) b later ++ r .0) = ap (freed v) (r .1) in
-          omega (
-            arith,
-            counted,
-            count-append (isFreeOf v) (pointSteps f (at .planned) b later) (r .0),
-            blocks-free f v (reachable f),
-            blocks-define-once f once in-file v (reachable f) (reachable-nodup f),
-          )
-
-      -- none that is defined before the point in its block has been freed,
-      pub defined-unfreed :
-          {v : ℕ} → v ∈ blockAt f b .parameters ++ resultsOf earlier → freed v (pointSteps f (at .planned) b later) ≡ 0
-      defined-unfreed {v} m =
-          omega (
-            arith,
-            point-frees f v (at .planned) b later,
-            others-define-none f once in-file (defined-earlier b earlier later split m) (at .planned) (turn-new at),
-            later-define-none f once in-file b earlier later split m,
-          )
-
-      -- and none that is live at it.
-      pub live-unfreed :
-          Dominated f → (u : ℕ) → T (beforeAll f later (process f .outs b) u) → freed u (pointSteps f (at .planned) b later) ≡ 0
-      live-unfreed dominated u t =
-          ⊎-elim defined-unfreed
-          (λ r.
-          let d = r .0 in
-          let strict = r .1 in
-          omega (
-            arith,
-            point-frees f u (at .planned) b later,
-            others-define-none f once in-file (r .2) (at .planned)
-                (λ k. dominator-not-before f (at .planned) (at .behind) (at .turn) k (strictly-dominates strict)),
-            not-∈→count (resultsOf later) (λ k. strict-dominator-ne f (turn-reachable at) strict (same-block f once in-file (r .2) (defined-later k))),
-          ))
-          (live-definer dominated (turn-reachable at) earlier later split t)
-        where
-          defined-later : u ∈ resultsOf later → u ∈ definedIn f b
-          defined-later k =
-              subst (λ is. u ∈ blockAt f b .parameters ++ resultsOf is) (sym split)
-              (Memᴰ·append-right (blockAt f b .parameters)
-              (subst (λ l. u ∈ l) (sym (concatMap-append (λ i. i .results) earlier later)) (Memᴰ·append-right (resultsOf earlier) k)))
-
-      -- A spilled value of the block has been given a slot, if the block's safepoints that it is live across are behind the
-      -- point: for another block that lists it comes earlier by index.
-      spilled-given :
-          Dominated f → (v : ℕ) → T (isSpilled f v) → v ∈ definedIn f b
-          → ((a : Across f (instructionsOf (blockAt f b)) (process f .outs b) v) → v ∈ blockAt f b .parameters ++ resultsOf (a .earlier)
-          → (ms : List Instruction) × (later ≡ ms ++ (a .safepoint ∷ a .later)))
-          → gives v ∈ pointSteps f (at .planned) b later
-      spilled-given dominated v spilled own follows =
-          let r = spilled-across f spilled in
-          test-elim (eqb (r .0) b)
-          (λ e.
-          here-given
-          (subst (λ x. Across f (instructionsOf (blockAt f x)) (process f .outs x) v) (eqb→eq (r .0) b e) (r .2)))
-          (λ n. elsewhere (r .0) (neqb→ne (r .0) b n) (r .1) (r .2))
-        where
-          before-safepoint :
-              (c : ℕ) (a : Across f (instructionsOf (blockAt f c)) (process f .outs c) v)
-              → T (beforeAll f (a .safepoint ∷ a .later) (process f .outs c) v)
-          before-safepoint c a = across-before f (a .safepoint) (beforeAll f (a .later) (process f .outs c)) v (a .live)
-
-          here-given : Across f (instructionsOf (blockAt f b)) (process f .outs b) v → gives v ∈ pointSteps f (at .planned) b later
-          here-given a =
-              let out = process f .outs b in
-              let end = a .safepoint ∷ a .later in
-              let m = turn-reachable at in
-              Memᴰ·append-right (concatMap (blockSteps f) (at .planned))
-              (⊎-elim
-              (λ k.
-              let r = follows a k in
-              ⊎-elim (Memᴰ·append-left (behindSteps f later out))
-              (λ j.
-              Memᴰ·append-right (outSteps f out)
-              (subst (λ is. gives v ∈ behindSteps f is out) (sym (r .1)) (behindSteps-more f (r .0) end out j)))
-              (List·Memᴰ·append-cases (outSteps f out) (live-given f v spilled m end (before-safepoint b a))))
-              (λ d. absurd (strict-dominator-ne f m (d .1) (same-block f once in-file (d .2) own)))
-              (live-definer dominated m (a .earlier) end (a .stands) (before-safepoint b a)))
-
-          elsewhere :
-              (c : ℕ) → c ≢ b → c ∈ reachable f → Across f (instructionsOf (blockAt f c)) (process f .outs c) v
-              → gives v ∈ pointSteps f (at .planned) b later
-          elsewhere c other m a =
-              let out = process f .outs c in
-              let end = a .safepoint ∷ a .later in
-              let lead = blockSteps-lead f m (a .earlier) end (a .stands) in
-              Memᴰ·append-left (outSteps f (process f .outs b) ++ behindSteps f later (process f .outs b))
-              (⊎-elim
-              (λ k. absurd (other (same-block f once in-file (defined-earlier c (a .earlier) end (a .stands) k) own)))
-              (λ d.
-              ∈-concatMap (blockSteps f)
-              (dominated-planned at (subst (λ x. StrictlyDominates f x c) (same-block f once in-file (d .2) own) (d .1)) m)
-              (subst (λ ss. gives v ∈ ss) (sym (lead .1))
-              (Memᴰ·append-left (lead .0) (live-given f v spilled m end (before-safepoint c a)))))
-              (live-definer dominated m (a .earlier) end (a .stands) (before-safepoint c a)))
-
-  -- So when planning comes to a definition, its value has a slot if it is spilled: a parameter
-  pub parameter-given :
-      Dominated f → {b : ℕ} (at : Turn f b) (v : ℕ) → T (isSpilled f v) → v ∈ blockAt f b .parameters
-      → gives v ∈ pointSteps f (at .planned) b (instructionsOf (blockAt f b))
-  parameter-given dominated {b} at v spilled m =
-      spilled-given at [] (instructionsOf (blockAt f b)) refl dominated v spilled
-      (Memᴰ·append-left (resultsOf (instructionsOf (blockAt f b))) m) (λ a _. (a .earlier, a .stands))
-
-  -- or a result.
-  pub result-given :
-      Dominated f → {b : ℕ} (at : Turn f b) (earlier : List Instruction) (i : Instruction) (later : List Instruction)
-      → instructionsOf (blockAt f b) ≡ earlier ++ (i ∷ later) → (v : ℕ) → T (isSpilled f v) → v ∈ i .results
-      → gives v ∈ pointSteps f (at .planned) b later
-  result-given dominated {b} at earlier i later split v spilled m =
-      spilled-given at (earlier ++ (i ∷ [])) later (split ∙ sym (append-assoc earlier (i ∷ []) later)) dominated v spilled own follows
-    where
-      ps : List ℕ
-      ps = blockAt f b .parameters
-
-      own : v ∈ definedIn f b
-      own =
-          Memᴰ·append-right ps
-          (subst (λ is. v ∈ resultsOf is) (sym split) (∈-concatMap (λ j. j .results) (Memᴰ·append-right earlier (here refl)) m))
-
-      -- the safepoint is none of those before the definition: they are not dominated by it
-      follows :
-          (a : Across f (instructionsOf (blockAt f b)) (process f .outs b) v) → v ∈ ps ++ resultsOf (a .earlier)
-          → (ms : List Instruction) × (later ≡ ms ++ (a .safepoint ∷ a .later))
-      follows a k = ⊎-elim (λ r. shorter (r .0) (r .1)) (λ r. absurd (longer (r .0) (r .1))) compared
-        where
-          end : List Instruction
-          end = a .safepoint ∷ a .later
-
-          compared : ((ms : List Instruction) × (i ∷ later ≡ ms ++ end)) ⊎ ((ms : List Instruction) × (ms ++ (i ∷ later) ≡ end))
-          compared = ends-compare earlier (i ∷ later) (a .earlier) end (sym split ∙ a .stands)
-
-          longer : (ms : List Instruction) → ms ++ (i ∷ later) ≡ end → ⊥
-          longer ms e =
-              omega (
-                arith,
-                later-define-none f once in-file b (a .earlier) end (a .stands) k,
-                ∈→count (subst (λ is. v ∈ resultsOf is) e (∈-concatMap (λ j. j .results) (Memᴰ·append-right ms (here refl)) m)),
-              )
-
-          shorter : (ms : List Instruction) → i ∷ later ≡ ms ++ end → (ns : List Instruction) × (later ≡ ns ++ end)
-          shorter [] e = absurd (longer [] e)
-          shorter (_ ∷ ns) e = (ns, tail-eq-of-cons-eq e)
+      strictly : (d : ℕ) → d ≢ b → v ∈ definedIn f d → StrictlyDominates f d b
+      strictly d off m passed p =
+          ⊎-elim
+          (λ k.
+          let r = ∈-concatMap-from (definedIn f) passed k in
+          subst (λ x. x ∈ passed) (same-block f once in-file (r .2) m) (r .1))
+          (λ k. absurd (off (same-block f once in-file m (earlier-defined f b earlier later split k))))
+          (List·Memᴰ·append-cases (concatMap (definedIn f) passed) (live-dominated dominated earlier later split p t))
