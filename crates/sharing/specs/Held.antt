@@ -21,8 +21,9 @@ use Rattle.lists.specs.Members.{_∈_, here, ∈-concatMap}
 use Rattle.walks.specs.Paths.{StrictlyDominates, strictly-dominates}
 use Rattle.walks.specs.Reachable.{reachable-nodup, strict-dominator-ne, dominator-not-before}
 use Rattle.sharing.specs.SlotSteps.{gives, isFreeOf, freed, outSteps, blockSteps, slotSteps}
-use Rattle.sharing.specs.Once.{earlier-defined, later-defined, same-block, others-define-none, blocks-define-once, later-define-none, ∈→count, not-∈→count}
-use Rattle.sharing.specs.Spilled.{Across, across-before, spilled-across}
+use Rattle.sharing.specs.Once.{earlier-defined, later-defined, same-block, others-define-none, blocks-define-once}
+use Rattle.sharing.specs.Once.{later-define-none, ∈→count, not-∈→count}
+use Rattle.sharing.specs.Spilled.{AcrossIn, across-before, spilled-across}
 use Rattle.sharing.specs.Turns.{Turn, turn-reachable, turn-new, dominated-planned, live-definer}
 use Rattle.sharing.specs.Points.{behindSteps, behindSteps-more, pointSteps, blockSteps-lead, pointSteps-lead, live-given}
 use Rattle.sharing.specs.Freeing.{blocks-free, point-frees}
@@ -70,7 +71,9 @@ module _ (f : Function) (once : T (definedOnce f)) (in-file : T (numbersInFile f
             others-define-none f once in-file (r .2) (at .planned)
                 (λ k. dominator-not-before f (at .planned) (at .behind) (at .turn) k (strictly-dominates strict)),
             not-∈→count (resultsOf later)
-                (λ k. strict-dominator-ne f (turn-reachable at) strict (same-block f once in-file (r .2) (later-defined f b earlier later split k))),
+                (λ k.
+                strict-dominator-ne f (turn-reachable at) strict
+                (same-block f once in-file (r .2) (later-defined f b earlier later split k))),
           ))
           (live-definer f once in-file dominated (turn-reachable at) earlier later split t)
 
@@ -78,7 +81,7 @@ module _ (f : Function) (once : T (definedOnce f)) (in-file : T (numbersInFile f
       -- point: for another block that lists it comes earlier by index.
       spilled-given :
           Dominated f → (v : ℕ) → T (isSpilled f v) → v ∈ definedIn f b
-          → ((a : Across f (instructionsOf (blockAt f b)) (process f .outs b) v) → v ∈ blockAt f b .parameters ++ resultsOf (a .earlier)
+          → ((a : AcrossIn f b v) → v ∈ blockAt f b .parameters ++ resultsOf (a .earlier)
           → (ms : List Instruction) × (later ≡ ms ++ (a .safepoint ∷ a .later)))
           → gives v ∈ pointSteps f (at .planned) b later
       spilled-given dominated v spilled own follows =
@@ -86,15 +89,15 @@ module _ (f : Function) (once : T (definedOnce f)) (in-file : T (numbersInFile f
           test-elim (eqb (r .0) b)
           (λ e.
           here-given
-          (subst (λ x. Across f (instructionsOf (blockAt f x)) (process f .outs x) v) (eqb→eq (r .0) b e) (r .2)))
+          (subst (λ x. AcrossIn f x v) (eqb→eq (r .0) b e) (r .2)))
           (λ n. elsewhere (r .0) (neqb→ne (r .0) b n) (r .1) (r .2))
         where
           before-safepoint :
-              (c : ℕ) (a : Across f (instructionsOf (blockAt f c)) (process f .outs c) v)
+              (c : ℕ) (a : AcrossIn f c v)
               → T (beforeAll f (a .safepoint ∷ a .later) (process f .outs c) v)
           before-safepoint c a = across-before f (a .safepoint) (beforeAll f (a .later) (process f .outs c)) v (a .live)
 
-          here-given : Across f (instructionsOf (blockAt f b)) (process f .outs b) v → gives v ∈ pointSteps f (at .planned) b later
+          here-given : AcrossIn f b v → gives v ∈ pointSteps f (at .planned) b later
           here-given a =
               let out = process f .outs b in
               let end = a .safepoint ∷ a .later in
@@ -112,7 +115,7 @@ module _ (f : Function) (once : T (definedOnce f)) (in-file : T (numbersInFile f
               (live-definer f once in-file dominated m (a .earlier) end (a .stands) (before-safepoint b a)))
 
           elsewhere :
-              (c : ℕ) → c ≢ b → c ∈ reachable f → Across f (instructionsOf (blockAt f c)) (process f .outs c) v
+              (c : ℕ) → c ≢ b → c ∈ reachable f → AcrossIn f c v
               → gives v ∈ pointSteps f (at .planned) b later
           elsewhere c other m a =
               let out = process f .outs c in
@@ -142,7 +145,8 @@ module _ (f : Function) (once : T (definedOnce f)) (in-file : T (numbersInFile f
       → instructionsOf (blockAt f b) ≡ earlier ++ (i ∷ later) → (v : ℕ) → T (isSpilled f v) → v ∈ i .results
       → gives v ∈ pointSteps f (at .planned) b later
   result-given dominated {b} at earlier i later split v spilled m =
-      spilled-given at (earlier ++ (i ∷ [])) later (split ∙ sym (append-assoc earlier (i ∷ []) later)) dominated v spilled own follows
+      spilled-given at (earlier ++ (i ∷ [])) later (split ∙ sym (append-assoc earlier (i ∷ []) later)) dominated v spilled
+      own follows
     where
       ps : List ℕ
       ps = blockAt f b .parameters
@@ -154,7 +158,7 @@ module _ (f : Function) (once : T (definedOnce f)) (in-file : T (numbersInFile f
 
       -- the safepoint is none of those before the definition: they are not dominated by it
       follows :
-          (a : Across f (instructionsOf (blockAt f b)) (process f .outs b) v) → v ∈ ps ++ resultsOf (a .earlier)
+          (a : AcrossIn f b v) → v ∈ ps ++ resultsOf (a .earlier)
           → (ms : List Instruction) × (later ≡ ms ++ (a .safepoint ∷ a .later))
       follows a k = ⊎-elim (λ r. shorter (r .0) (r .1)) (λ r. absurd (longer (r .0) (r .1))) compared
         where

@@ -47,7 +47,8 @@ behindSteps-lead :
 behindSteps-lead f [] later out = ([], sym (append-nil (behindSteps f later out)))
 behindSteps-lead f (i ∷ earlier) later out =
     let r = behindSteps-lead f earlier later out in
-    let own = instructionSteps f (i, cond (i .safepoint) (some (members (length (f .values)) (across f i (beforeAll f (earlier ++ later) out)))) none) in
+    let list = members (length (f .values)) (across f i (beforeAll f (earlier ++ later) out)) in
+    let own = instructionSteps f (i, cond (i .safepoint) (some list) none) in
     (r .0 ++ own, ap (λ ss. ss ++ own) (r .1) ∙ append-assoc (behindSteps f later out) (r .0) own)
 
 -- so their steps are among those of more instructions.
@@ -181,5 +182,7 @@ module _ (f : Function) (v : ℕ) (spilled : T (isSpilled f v)) where
       ⊎-elim (λ u. Memᴰ·append-right (outSteps f out) (first-use-gives later out u))
       (λ o.
       Memᴰ·append-left (behindSteps f later out)
-      (Memᴰ·map gives (∈-keep (isSpilled f) (∈-keep out (∈-upFrom 0 n v (omega arith) (omega (arith, live-in-file f m [] (o .0)))) (o .0)) spilled)))
+      (Memᴰ·map gives
+      (∈-keep (isSpilled f)
+      (∈-keep out (∈-upFrom 0 n v (omega arith) (omega (arith, live-in-file f m [] (o .0)))) (o .0)) spilled)))
       (live-before f later out t)

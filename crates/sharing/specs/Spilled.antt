@@ -29,15 +29,21 @@ pub record Across (f : Function) (is : List Instruction) (out : NumberSet) (v : 
   pub is-safepoint : T (safepoint .safepoint)
   pub live : T (across f safepoint (beforeAll f later out) v)
 
+-- v is live across a safepoint of block b
+abbrev pub AcrossIn : Function → ℕ → ℕ → Type 0
+AcrossIn f b v = Across f (instructionsOf (blockAt f b)) (process f .outs b) v
+
 module _ (f : Function) where
-  -- what is live across a safepoint, or before the instructions behind some point of a reachable block, is marked,
-  pub live-marked : {b : ℕ} → b ∈ reachable f → (later : List Instruction) → Within (beforeAll f later (process f .outs b)) (isMarked f)
+  -- what is live at a point of a reachable block is marked,
+  pub live-marked :
+      {b : ℕ} → b ∈ reachable f → (later : List Instruction) → Within (beforeAll f later (process f .outs b)) (isMarked f)
   live-marked {b} m later =
       beforeAll-marked f later (process f .outs b) (λ v t. live-out-marked f (process-outs-live f m v .0 t))
 
   -- and a value of the file.
   pub live-in-file :
-      {b : ℕ} → b ∈ reachable f → (later : List Instruction) {v : ℕ} → T (beforeAll f later (process f .outs b) v) → v < length (f .values)
+      {b : ℕ} → b ∈ reachable f → (later : List Instruction) {v : ℕ} → T (beforeAll f later (process f .outs b) v)
+      → v < length (f .values)
   live-in-file m later {v} t = marked-in-file f v (live-marked m later v t)
 
   -- what is live across an instruction is live before it
@@ -111,7 +117,7 @@ module _ (f : Function) where
   -- A SPILLED VALUE is live across a safepoint of a reachable block,
   pub spilled-across :
       {v : ℕ} → T (isSpilled f v)
-      → (b : ℕ) × (b ∈ reachable f) × Across f (instructionsOf (blockAt f b)) (process f .outs b) v
+      → (b : ℕ) × (b ∈ reachable f) × AcrossIn f b v
   unfolding isSpilled listsOf
   spilled-across {v} spilled =
       let on = any-elim (λ l. has v (orElse [] l)) (lists f) spilled in
@@ -119,7 +125,7 @@ module _ (f : Function) where
       let b = of .0 in
       let is = instructionsOf (blockAt f b) in
       if-elim
-      (λ (ls : List (Option (List ℕ))). on .0 ∈ ls → (c : ℕ) × (c ∈ reachable f) × Across f (instructionsOf (blockAt f c)) (process f .outs c) v)
+      (λ (ls : List (Option (List ℕ))). on .0 ∈ ls → (c : ℕ) × (c ∈ reachable f) × AcrossIn f c v)
       (has b (reachable f)) (listsAmong f is (process f .outs b)) (map (λ _. none) is)
       (λ reached m. (b, has→∈ (reachable f) reached, listed-across is (process f .outs b) m (on .2)))
       (λ _ m. absurd (none-listed v is m (on .2)))
@@ -134,7 +140,8 @@ module _ (f : Function) where
       (λ n.
       let none : Block = record { cold = false; number = 0; parameters = []; items = [] } in
       let outside = List·getD-eq-default (f .blocks) none (nltb→le b (length (f .blocks)) n) in
-      absurd (not-∈-nil (subst (λ is. i ∈ is) (sym stands ∙ ap (λ (x : Block). instructionsOf x) outside) (Memᴰ·append-right earlier (here refl)))))
+      let no-instructions = sym stands ∙ ap (λ (x : Block). instructionsOf x) outside in
+      absurd (not-∈-nil (subst (λ is. i ∈ is) no-instructions (Memᴰ·append-right earlier (here refl)))))
 
   -- and what is live across one is spilled.
   pub across-spilled :
@@ -147,10 +154,14 @@ module _ (f : Function) where
       let low : v < length (f .values) = live-in-file m (i ∷ later) (across-before i (beforeAll f later out) v t) in
       let listed = across-listed earlier i later out s low t in
       let is = instructionsOf (blockAt f b) in
-      let here-listed : listed .0 ∈ listsAmong f is out = subst (λ js. listed .0 ∈ listsAmong f js out) (sym stands) (listed .1) in
+      let own : listsOf f b ≡ listsAmong f is out =
+      chosen (has b (reachable f)) (listsAmong f is out) (map (λ _. none) is) (∈→has m) in
+      let in-block : listed .0 ∈ listsOf f b =
+      subst (λ (ls : List (Option (List ℕ))). listed .0 ∈ ls) (sym own)
+      (subst (λ js. listed .0 ∈ listsAmong f js out) (sym stands) (listed .1)) in
+      let low-block : b < length (f .blocks) = inhabited-in-file b earlier i later stands in
       any-intro (λ l. has v (orElse [] l))
-      (∈-concatMap (listsOf f) (∈-upFrom 0 (length (f .blocks)) b (omega arith) (omega (arith, inhabited-in-file b earlier i later stands)))
-      (subst (λ (ls : List (Option (List ℕ))). listed .0 ∈ ls) (sym (chosen (has b (reachable f)) (listsAmong f is out) (map (λ _. none) is) (∈→has m))) here-listed))
+      (∈-concatMap (listsOf f) (∈-upFrom 0 (length (f .blocks)) b (omega arith) (omega (arith, low-block))) in-block)
       (listed .2)
 
   -- So it is marked.
@@ -158,7 +169,8 @@ module _ (f : Function) where
   spilled-marked v spilled =
       let r = spilled-across spilled in
       let a = r .2 in
-      live-marked (r .1) (a .safepoint ∷ a .later) v (across-before (a .safepoint) (beforeAll f (a .later) (process f .outs (r .0))) v (a .live))
+      live-marked (r .1) (a .safepoint ∷ a .later) v
+      (across-before (a .safepoint) (beforeAll f (a .later) (process f .outs (r .0))) v (a .live))
 
   -- A reachable block's instructions, each with what is live across it.
   pub listedInstructions-reachable :

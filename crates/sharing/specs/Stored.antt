@@ -18,7 +18,8 @@ use Rattle.rules.specs.Demand3.{Dominated}
 use Rattle.lists.specs.Members.{_∈_, here, there}
 use Rattle.lists.specs.Maps.{concatMap-append}
 use Rattle.lists.specs.Pairs.{Each}
-use Rattle.sharing.specs.SlotSteps.{gives, replayed, replayed-append, lastFirst, definitionSteps, instructionSteps, outSteps, blockSteps}
+use Rattle.sharing.specs.SlotSteps.{gives, replayed, replayed-append, lastFirst, definitionSteps, instructionSteps}
+use Rattle.sharing.specs.SlotSteps.{outSteps, blockSteps}
 use Rattle.sharing.specs.Holding.{HasSlot, replayed-keeps, replayed-has}
 use Rattle.sharing.specs.Replaying.{replays-backward, replays-slots, replays-definition, replays-instruction, replays-block}
 use Rattle.sharing.specs.Spilled.{listedInstructions-reachable}
@@ -82,7 +83,8 @@ module _ (f : Function) (pointer : ℕ) where
     one (cond (i .safepoint) (some (members (length (f .values)) (across f i (beforeAll f is out)))) none) after
         (λ v m spilled.
         subst (λ (q : StackSlots). Slotted q v)
-        (sym (replays-backward f (replays-instruction f pointer) (listed f is out) .slots-replayed p)) (slotted [] i is refl v m spilled)),
+        (sym (replays-backward f (replays-instruction f pointer) (listed f is out) .slots-replayed p))
+        (slotted [] i is refl v m spilled)),
     results-stored-from is out p (λ earlier j later e. slotted (i ∷ earlier) j later (ap (λ js. i ∷ js) e)),
   )
     where
@@ -115,7 +117,10 @@ module _ (f : Function) (pointer : ℕ) where
         inside : Plan
         inside = forEachBackward (planInstruction f pointer) (listedInstructions f b) outs .1
 
-        at-point : (later : List Instruction) → replayed (sizeOf f) (pointSteps f (at .planned) b later) noSlots ≡ replayed (sizeOf f) (behindSteps f later out) (outs .slots)
+        at-point :
+            (later : List Instruction)
+            → replayed (sizeOf f) (pointSteps f (at .planned) b later) noSlots
+            ≡ replayed (sizeOf f) (behindSteps f later out) (outs .slots)
         at-point later =
             replayed-append (sizeOf f) (concatMap (blockSteps f) (at .planned)) (outSteps f out ++ behindSteps f later out) noSlots
             ∙ ap (replayed (sizeOf f) (outSteps f out ++ behindSteps f later out)) (sym now)
@@ -123,7 +128,9 @@ module _ (f : Function) (pointer : ℕ) where
             ∙ ap (replayed (sizeOf f) (behindSteps f later out))
             (sym (replays-slots f pointer (keep (isSpilled f) (members (length (f .values)) out)) .slots-replayed p))
 
-        given : (later : List Instruction) (v : ℕ) → gives v ∈ pointSteps f (at .planned) b later → Slotted (replayed (sizeOf f) (behindSteps f later out) (outs .slots)) v
+        given :
+            (later : List Instruction) (v : ℕ) → gives v ∈ pointSteps f (at .planned) b later
+            → Slotted (replayed (sizeOf f) (behindSteps f later out) (outs .slots)) v
         given later v m = subst (λ (q : StackSlots). Slotted q v) (at-point later) (replayed-has (sizeOf f) noSlots m)
 
         results : Each (ResultsStored f) is (forEachBackward (planInstruction f pointer) (listedInstructions f b) outs .0)
@@ -135,14 +142,16 @@ module _ (f : Function) (pointer : ℕ) where
 
         planned-inside : replayed (sizeOf f) (behindSteps f is out) (outs .slots) ≡ inside .slots
         planned-inside =
-            ap (λ xs. replayed (sizeOf f) (lastFirst (instructionSteps f) xs) (outs .slots)) (sym (listedInstructions-reachable f (turn-reachable at)))
+            ap (λ xs. replayed (sizeOf f) (lastFirst (instructionSteps f) xs) (outs .slots))
+            (sym (listedInstructions-reachable f (turn-reachable at)))
             ∙ sym (replays-backward f (replays-instruction f pointer) (listedInstructions f b) .slots-replayed outs)
 
         parameters : Each (Stored f) (blockAt f b .parameters) (forEach (planDefinition f pointer) (blockAt f b .parameters) inside .0)
         parameters =
             definitions-stored-from (blockAt f b .parameters) inside
             (λ v m spilled.
-            subst (λ (q : StackSlots). Slotted q v) planned-inside (given is v (parameter-given f once in-file dominated at v spilled m)))
+            subst (λ (q : StackSlots). Slotted q v) planned-inside
+            (given is v (parameter-given f once in-file dominated at v spilled m)))
 
     -- So are those of the blocks still to be planned,
     blocks-stored :
