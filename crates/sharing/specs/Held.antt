@@ -77,8 +77,8 @@ module _ (f : Function) (once : T (definedOnce f)) (in-file : T (numbersInFile f
           ))
           (live-definer f once in-file dominated (turn-reachable at) earlier later split t)
 
-      -- A spilled value of the block has been given a slot, if the block's safepoints that it is live across are behind the
-      -- point: for another block that lists it comes earlier by index.
+      -- A spilled value that the block defines has been given a slot, if those safepoints of the block that list it are
+      -- behind the point: another block that lists it has been planned before.
       spilled-given :
           Dominated f → (v : ℕ) → T (isSpilled f v) → v ∈ definedIn f b
           → ((a : AcrossIn f b v) → v ∈ blockAt f b .parameters ++ resultsOf (a .earlier)

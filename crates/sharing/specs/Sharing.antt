@@ -60,7 +60,7 @@ module _ (f : Function) (pointer : ℕ) (once : T (definedOnce f)) (in-file : T 
       live-unfreed f once in-file at earlier later split dominated u live,
     )
 
-    -- So is a value that is defined there and has been given a slot.
+    -- So is a value defined before the point in its block not yet freed, and it differs from what is live.
     defined-differ :
         {u v : ℕ} → v ∈ blockAt f b .parameters ++ resultsOf earlier → gives v ∈ steps → u ≢ v
         → T (isSpilled f u) → T (beforeAll f later (process f .outs b) u) → slotNumber f pointer u ≢ slotNumber f pointer v
