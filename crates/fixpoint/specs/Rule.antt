@@ -115,8 +115,8 @@ adding-marked f l s h v =
 removing-within : (l : List ℕ) (s t : NumberSet) → Within s t → Within (removing l s) t
 removing-within l s t h v k = h v (and-right (not (has v l)) (s v) k)
 
--- so before a list of instructions all is marked
-beforeAll-marked :
+-- So before a list of instructions all is marked.
+pub beforeAll-marked :
     (f : Function) (is : List Instruction) (out : NumberSet) → Within out (isMarked f)
     → Within (beforeAll f is out) (isMarked f)
 beforeAll-marked f [] out h = h

@@ -7,3 +7,5 @@ pub mod Lack
 pub mod Alls
 pub mod Anys
 pub mod Truths
+pub mod Pairs
+pub mod Splits

@@ -9,25 +9,14 @@ use mathlib.Core.Option.{Option, none, some}
 use mathlib.Core.List.{List, [], _∷_, map}
 use lib.ListN.{length}
 use lib.Dec.{T, eqb}
-use Rattle.rules.specs.Lists.{count, has, zipWith}
+use Rattle.rules.specs.Lists.{count, has}
 use Rattle.rules.specs.Tree.{Edge, MapEntry, Instruction, Item, instruction, slotAddress, store, load, jump, Block, Function}
 use Rattle.rules.specs.Graph.{blockAt, isMarked, instructionsAmong}
 use Rattle.rules.specs.Demand3.{everyInstruction}
 use Rattle.rules.specs.declared.EdgeArgument.{EdgeArgument}
-use Rattle.lists.specs.Members.{_∈_}
+pub use Rattle.lists.specs.Pairs.{Each, Paired}
 use Rattle.simulation.specs.Ghost.{Meaning, address, word, Ghost, nothingKnown, loadedThrough, past, defining}
 use Rattle.simulation.specs.Ghost.{stepping, passing, jumping, meant, binding}
-
--- two lists are as long as each other and related member by member
-abbrev pub Each : {A B : Type 0} → (A → B → Type 0) → List A → List B → Type 0
-Each R [] [] = Unit
-Each R [] (_ ∷ _) = ⊥
-Each R (_ ∷ _) [] = ⊥
-Each R (x ∷ xs) (y ∷ ys) = R x y × Each R xs ys
-
--- x and y stand at one place of two lists
-abbrev pub Paired : {A B : Type 0} → A → B → List A → List B → Type 0
-Paired {A} {B} x y xs ys = _∈_ {A = A × B} (x, y) (zipWith (λ a b. (a, b)) xs ys)
 
 -- BLOCKS BY NUMBER, as a run finds them: the block, and the number of its first instruction.
 abbrev pub numbers : List Block → List ℕ

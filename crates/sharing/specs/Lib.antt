@@ -1,0 +1,12 @@
+pub mod SlotSteps
+pub mod Holding
+pub mod Replaying
+pub mod LiveDominated
+pub mod Once
+pub mod Spilled
+pub mod Points
+pub mod Freeing
+pub mod Turns
+pub mod Held
+pub mod Sharing
+pub mod Stored
