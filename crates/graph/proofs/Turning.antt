@@ -17,6 +17,7 @@ use Rattle.rules.specs.File.{named, functionIn}
 use Rattle.rules.specs.Graph.{successors}
 use Rattle.lists.specs.Tests.{test-elim, if-elim, neqb→ne, chosen, left-out}
 use Rattle.lists.specs.Members.{_∈_, here, has→∈, ∈-reverseAux-left, ∈-reverseAux-right}
+use Rattle.lists.specs.Down.{down, length-down}
 use Rattle.walks.specs.Line.{sound-nodup}
 use Rattle.walks.specs.InFile.{blocks-some, path-in-file, successor-in-file}
 use Rattle.walks.specs.Machine.{Frame, Machine, blocksOn, Stacked, Kept, Going, step, push, step-going, step-kept, stack-length-le}
@@ -24,8 +25,7 @@ use Rattle.graph.specs.Zeros.{getD-padded, length-padded-le}
 use Rattle.graph.specs.Between.{between}
 use Rattle.graph.specs.Blocks.{blockTable, placeOf, length-blockTable, place-le, place-less, successors-by-place}
 use Rattle.graph.specs.NextEdge.{Taken, edgeFrom, edgeFrom-taken}
-use Rattle.graph.specs.Tables.{Tables, finishTop, enterBlock, lookFrom, takeEdge, turnBy, turnOn, down, frameOf, frameAt, stageOf, machineOf, Given, Room, Clear, Ready}
-use Rattle.graph.proofs.Marks.{length-down}
+use Rattle.graph.specs.Tables.{Tables, finishTop, enterBlock, lookFrom, takeEdge, turnBy, turnOn, frameOf, frameAt, stageOf, machineOf, Given, Room, Clear, Ready}
 use Rattle.graph.proofs.Tags.{Tagged, tagged-more, tagged-other}
 use Rattle.graph.proofs.Steps.{stack-top, step-top, finish-step, skip-step, enter-step}
 

@@ -6,3 +6,4 @@ pub mod Counts
 pub mod Lack
 pub mod Alls
 pub mod Truths
+pub mod Down
