@@ -1,7 +1,7 @@
 -- What `any`, `keep`, `upFrom` and `update` find. Nothing here is about functions or live sets.
 use Prim.Native.Nat.{ℕ, zero, suc, _+_, _≤_, _<_}
 use native.Mathlib.Omega.{arith}
-use mathlib.Core.Path.{_≡_, refl, subst, sym}
+use mathlib.Core.Path.{_≡_, refl, ap, subst, sym}
 use mathlib.Core.Bool.{Bool, true, false, not, cond}
 use mathlib.Core.List.{List, [], _∷_}
 use lib.Dec.{T, T-not, eqb, eqb→eq}
@@ -85,3 +85,15 @@ module _ {A : Type 0} where
   -- and the old ones elsewhere.
   pub update-there : (k : ℕ) (x : A) (f : ℕ → A) (j : ℕ) → T (not (eqb j k)) → update k x f j ≡ f j
   update-there k x f j n = update-elim (λ y. y ≡ f j) k x f j (λ e. absurd (neqb→ne j k n e)) (λ _. refl)
+
+  -- Changed to what it was it is as it was,
+  pub update-self : (k : ℕ) (f : ℕ → A) → update k (f k) f ≡ f
+  update-self k f = λ i j. update-elim (λ y. y ≡ f j) k (f k) f j (λ e. ap f (sym e)) (λ _. refl) i
+
+  -- and of two changes at one place the second stands.
+  pub update-again : (k : ℕ) (x y : A) (f : ℕ → A) → update k y (update k x f) ≡ update k y f
+  update-again k x y f = λ i j. go (eqb j k) (f j) i
+    where
+      go : (t : Bool) (z : A) → cond t y (cond t x z) ≡ cond t y z
+      go true z = refl
+      go false z = refl

@@ -1,26 +1,15 @@
--- Tables of tags, lists by index, and stacks read from the top, changed at one place.
-use Prim.Native.Nat.{ℕ, zero, suc, _+_, _<_}
-use mathlib.Core.Path.{_≡_, refl, ap, ap₂, _∙_}
+-- Tables of tags and lists by index, changed at one place.
+use Prim.Native.Nat.{ℕ, _+_, _<_}
+use mathlib.Core.Path.{_≡_, refl, ap, _∙_}
 use mathlib.Core.Logic.{_≢_}
 use mathlib.Core.Bool.{not, _||_}
 use mathlib.Core.List.{List, [], _∷_, reverse, reverse-append}
-use native.Mathlib.Omega.{arith}
 use native.Mathlib.Numerals.{add-one}
 use borrow.Author.Tests.{eq-eqb, ne-eqb}
 use lib.ListN.{length, getD, set, take}
 use lib.Seq.{getD-set-same, getD-set-other, take-suc-set}
 use lib.Dec.{eqb, eqb→eq}
 use Rattle.lists.specs.Tests.{test-elim, neqb→ne}
-use Rattle.graph.specs.Tables.{down}
-
-module _ {A : Type 0} where
-  pub down-same : (f g : ℕ → A) (k : ℕ) → ((j : ℕ) → j < k → f j ≡ g j) → down f k ≡ down g k
-  down-same f g zero h = refl
-  down-same f g (suc k) h = ap₂ (λ x xs. x ∷ xs) (h k (omega arith)) (down-same f g k (λ j l. h j (omega arith)))
-
-  pub length-down : (f : ℕ → A) (k : ℕ) → length (down f k) ≡ k
-  length-down f zero = refl
-  length-down f (suc k) = ap suc (length-down f k)
 
 -- one more at the end of a list by index is one more at the front of the list turned round
 pub done-more :

@@ -11,11 +11,12 @@ use Rattle.rules.specs.Lists.{NumberSet}
 use Rattle.rules.specs.Tree.{Function}
 use Rattle.rules.specs.File.{named}
 use Rattle.rules.specs.Graph.{successors}
+use Rattle.lists.specs.Down.{down, down-same}
 use Rattle.walks.specs.Walks.{finishing}
 use Rattle.walks.specs.Machine.{Frame, Machine, push, step, stepOn, stepTop}
 use Rattle.graph.specs.Between.{between}
-use Rattle.graph.specs.Tables.{Tables, tables, down, frameOf, frameAt, stageOf, machineOf}
-use Rattle.graph.proofs.Marks.{down-same, done-more, mark-set, mark-kept}
+use Rattle.graph.specs.Tables.{Tables, tables, frameOf, frameAt, stageOf, machineOf}
+use Rattle.graph.proofs.Marks.{done-more, mark-set, mark-kept}
 
 machine-eq :
     {stack stack′ : List Frame} {entered entered′ : NumberSet} {done done′ : List ℕ}

@@ -14,14 +14,14 @@ use Rattle.rules.specs.Lists.{has}
 use Rattle.rules.specs.File.{named, functionIn}
 use Rattle.lists.specs.Tests.{test-elim, if-elim, neqb→ne, chosen, left-out}
 use Rattle.lists.specs.Members.{_∈_, here, has→∈, ∈-reverseAux-left, ∈-reverseAux-right}
+use Rattle.lists.specs.Down.{down, length-down}
 use Rattle.walks.specs.Line.{sound-nodup}
 use Rattle.walks.specs.InFile.{path-in-file, successor-in-file}
 use Rattle.walks.specs.Machine.{Frame, Machine, blocksOn, Stacked, Kept, Going, step, push, step-going, step-kept, stack-length-le}
 use Rattle.graph.specs.Between.{between}
 use Rattle.graph.specs.NextEdge.{Taken, edgeFrom, edgeFrom-taken}
-use Rattle.graph.specs.Tables.{Tables, finishTop, enterBlock, lookFrom, takeEdge, turnBy, turnOn, down, frameOf, frameAt, stageOf, machineOf, Given, Room, Clear, Ready}
+use Rattle.graph.specs.Tables.{Tables, finishTop, enterBlock, lookFrom, takeEdge, turnBy, turnOn, frameOf, frameAt, stageOf, machineOf, Given, Room, Clear, Ready}
 use Rattle.graph.specs.ByTable.{some, end-le, start-less, edges-all}
-use Rattle.graph.proofs.Marks.{length-down}
 use Rattle.graph.proofs.Tags.{Tagged, tagged-more, tagged-other}
 use Rattle.graph.proofs.Steps.{stack-top, step-top, finish-step, skip-step, enter-step}
 

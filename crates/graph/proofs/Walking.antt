@@ -12,10 +12,11 @@ use Rattle.rules.specs.Tree.{Function}
 use Rattle.rules.specs.File.{functionIn}
 use Rattle.rules.specs.Graph.{successors, reachable}
 use Rattle.lists.specs.Tests.{test-elim}
+use Rattle.lists.specs.Down.{down, length-down}
 use Rattle.walks.specs.Machine.{Kept, Going, Found, begin, begin-going, begin-kept, going-found, left, step-less}
 use Rattle.graph.specs.Zeros.{zeros-at, padded-ext}
-use Rattle.graph.specs.Tables.{Tables, tables, enterBlock, turnOn, down, frameOf, frameAt, stageOf, machineOf, tagFrom, indexTag, indexTable, indexTable-at, length-indexTable, Ready, Lent, Numbered}
-use Rattle.graph.proofs.Marks.{length-down, mark-set}
+use Rattle.graph.specs.Tables.{Tables, tables, enterBlock, turnOn, frameOf, frameAt, stageOf, machineOf, tagFrom, indexTag, indexTable, indexTable-at, length-indexTable, Ready, Lent, Numbered}
+use Rattle.graph.proofs.Marks.{mark-set}
 use Rattle.graph.proofs.Tags.{tag-none}
 use Rattle.graph.specs.ByTable.{some, start-less, edges-all}
 use Rattle.graph.proofs.Turning.{turned}

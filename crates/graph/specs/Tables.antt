@@ -12,6 +12,7 @@ use Rattle.rules.specs.Records.{records}
 use Rattle.rules.specs.File.{ordered, named, functionIn}
 use Rattle.rules.specs.Graph.{reachable}
 use Rattle.rules.specs.Refusals.{numbersInFile}
+use Rattle.lists.specs.Down.{down}
 use Rattle.walks.specs.Walks.{Stage}
 use Rattle.walks.specs.Machine.{Frame, Machine, Going, Kept}
 use Rattle.graph.specs.Zeros.{Zeros}
@@ -66,12 +67,7 @@ turnOn s places t =
     let e = edgeFrom s (getD (t .next) top 0) (getD places (getD (t .stack) top 0 + 1) 0) in
     turnBy places (e .tag) (e .behind) t
 
--- THE MACHINE. f (k - 1), .. , f 0
-abbrev pub down : {A : Type 0} → (ℕ → A) → ℕ → List A
-down f zero = []
-down f (suc k) = f k ∷ down f k
-
--- a block on the stack, and its edges from place p on
+-- THE MACHINE. A block on the stack, and its edges from place p on
 abbrev pub frameOf : List ℕ → List ℕ → ℕ → ℕ → Frame
 frameOf s places b p = record { block = b; edges = named 7 (between s p (getD places (b + 1) 0)) }
 

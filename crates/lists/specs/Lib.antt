@@ -9,3 +9,4 @@ pub mod Anys
 pub mod Truths
 pub mod Pairs
 pub mod Splits
+pub mod Down

@@ -1,0 +1,103 @@
+-- The bits of a number, lowest first, and what the operations on words do to them.
+use Prim.Native.Nat.{ℕ, zero, suc, _+_, _-_, _*_, _/_, _%_, _^_, _<_, min, max}
+use native.Mathlib.Omega.{arith}
+use native.Mathlib.Nat.{pow-suc, mul-comm, div-div-eq-div-mul}
+use mathlib.Core.Path.{_≡_, refl, sym, ap, _∙_}
+use mathlib.Core.Bool.{Bool, true, false, not, _&&_, _||_}
+use lib.Bits.{bitAnd, bitOr, and-step, or-step, and-mask}
+use lib.Dec.{eqb, eqb·zero-suc, eqb·suc-zero, eqb·suc-suc}
+use Rattle.rules.specs.Lists.{NumberSet}
+use Rattle.rules.specs.Records.{bit}
+use Rattle.rules.specs.Services.{bitsFrom}
+
+-- bit i of a number
+unfoldable pub bitAt : ℕ → ℕ → Bool
+bitAt x zero = eqb (x % 2) 1
+bitAt x (suc i) = bitAt (x / 2) i
+
+-- to prove something of a remainder by two, prove it of 0 and of 1
+parity-elim : (P : ℕ → Type 0) → P 0 → P 1 → (x : ℕ) → P (x % 2)
+parity-elim P even odd x = go (x % 2) (let h : x % 2 < 2 = omega arith in h)
+  where
+    go : (r : ℕ) → r < 2 → P r
+    go zero h = even
+    go (suc zero) h = odd
+    go (suc (suc r)) h = absurd (omega arith)
+
+-- and of two remainders
+parity-elim₂ : (P : ℕ → ℕ → Type 0) → P 0 0 → P 0 1 → P 1 0 → P 1 1 → (x y : ℕ) → P (x % 2) (y % 2)
+parity-elim₂ P a b c d x y = parity-elim (λ r. P r (y % 2)) (parity-elim (P 0) a b y) (parity-elim (P 1) c d y) x
+
+-- THE OPERATIONS, bit by bit
+pub bit-or : (i x y : ℕ) → bitAt (bitOr x y) i ≡ bitAt x i || bitAt y i
+unfolding bitAt
+bit-or zero x y =
+    let e : bitOr x y % 2 ≡ max (x % 2) (y % 2) = omega (arith, or-step x y) in
+    rw e (parity-elim₂ (λ r q. eqb (max r q) 1 ≡ eqb r 1 || eqb q 1) refl refl refl refl x y)
+bit-or (suc i) x y =
+    let e : bitOr x y / 2 ≡ bitOr (x / 2) (y / 2) = omega (arith, or-step x y) in
+    rw e (bit-or i (x / 2) (y / 2))
+
+pub bit-and : (i x y : ℕ) → bitAt (bitAnd x y) i ≡ bitAt x i && bitAt y i
+unfolding bitAt
+bit-and zero x y =
+    let e : bitAnd x y % 2 ≡ min (x % 2) (y % 2) = omega (arith, and-step x y) in
+    rw e (parity-elim₂ (λ r q. eqb (min r q) 1 ≡ eqb r 1 && eqb q 1) refl refl refl refl x y)
+bit-and (suc i) x y =
+    let e : bitAnd x y / 2 ≡ bitAnd (x / 2) (y / 2) = omega (arith, and-step x y) in
+    rw e (bit-and i (x / 2) (y / 2))
+
+-- the complement of a number of k bits
+pub bit-not : (k i x : ℕ) → i < k → x < 2 ^ k → bitAt (2 ^ k - 1 - x) i ≡ not (bitAt x i)
+unfolding bitAt
+bit-not zero i x l h = absurd (omega arith)
+bit-not (suc k) zero x l h =
+    let e : (2 ^ suc k - 1 - x) % 2 ≡ 1 - x % 2 = omega (arith, pow-suc 2 k) in
+    rw e (parity-elim (λ r. eqb (1 - r) 1 ≡ not (eqb r 1)) refl refl x)
+bit-not (suc k) (suc i) x l h =
+    let e : (2 ^ suc k - 1 - x) / 2 ≡ 2 ^ k - 1 - x / 2 = omega (arith, pow-suc 2 k) in
+    rw e (bit-not k i (x / 2) (omega arith) (omega (arith, pow-suc 2 k)))
+
+-- zero has no bit,
+pub bit-zero : (i : ℕ) → bitAt 0 i ≡ false
+unfolding bitAt
+bit-zero zero = refl
+bit-zero (suc i) = bit-zero i
+
+-- and a power of two has one
+pub bit-power : (i k : ℕ) → bitAt (2 ^ k) i ≡ eqb i k
+unfolding bitAt
+bit-power zero zero = refl
+bit-power (suc i) zero = bit-zero i ∙ sym (eqb·suc-zero i)
+bit-power zero (suc k) =
+    let e : 2 ^ suc k % 2 ≡ 0 = omega (arith, pow-suc 2 k) in
+    rw e (sym (eqb·zero-suc k))
+bit-power (suc i) (suc k) =
+    let e : 2 ^ suc k / 2 ≡ 2 ^ k = omega (arith, pow-suc 2 k) in
+    rw e (bit-power i k ∙ sym (eqb·suc-suc i k))
+
+-- a bit is what a shift brings to the lowest place
+bit-shifted : (i x : ℕ) → bitAt x i ≡ eqb (x / 2 ^ i % 2) 1
+unfolding bitAt
+bit-shifted zero x = let e : x / 2 ^ 0 ≡ x = omega arith in rw e
+bit-shifted (suc i) x =
+    let e : x / 2 ^ suc i ≡ x / 2 / 2 ^ i =
+    ap (λ z. x / z) (pow-suc 2 i ∙ mul-comm (2 ^ i) 2) ∙ sym (div-div-eq-div-mul x 2 (2 ^ i)) in
+    rw e (bit-shifted i (x / 2))
+
+pub bit-tested : (i x : ℕ) → eqb (bitAnd (x / 2 ^ i) 1) 1 ≡ bitAt x i
+bit-tested i x = ap (λ z. eqb z 1) (and-mask (x / 2 ^ i) 1) ∙ sym (bit-shifted i x)
+
+-- A NUMBER of k bits is the sum of its bits.
+pub bitsFrom-bits :
+    (k a x : ℕ) (s : NumberSet) → x < 2 ^ k → ((i : ℕ) → i < k → s (a + i) ≡ bitAt x i) → bitsFrom s a k ≡ x
+unfolding bitAt
+bitsFrom-bits zero a x s l h = omega arith
+bitsFrom-bits (suc k) a x s l h =
+    let first : a + 0 ≡ a = omega arith in
+    let low : bit (s a) ≡ x % 2 =
+    ap (λ z. bit (s z)) (sym first) ∙ ap bit (h 0 (omega arith)) ∙ parity-elim (λ r. bit (eqb r 1) ≡ r) refl refl x in
+    let rest : bitsFrom s (suc a) k ≡ x / 2 =
+    bitsFrom-bits k (suc a) (x / 2) s (omega (arith, pow-suc 2 k))
+    (λ i m. let next : suc a + i ≡ a + suc i = omega arith in ap s next ∙ h (suc i) (omega arith)) in
+    omega arith

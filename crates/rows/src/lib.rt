@@ -1,0 +1,113 @@
+// Live sets as rows of words: value v at bit v mod 64 of word v / 64 of its row. Every function says what it does to the
+// sets of a whole table, `rows`; that fixes each word of the table, to its end (`rows-same` of specs/Tables.antt).
+ghost use mathlib.Core.Path.{_≡_};
+ghost use mathlib.Core.Bool.{_&&_, _||_, not};
+ghost use mathlib.Core.List.{_∷_, []};
+ghost use Prim.Native.Nat.{ℕ, _%_, _^_, _<_};
+ghost use Rattle.rules.specs.Lists.{update, union, adding, removing};
+ghost use Rattle.rows.specs.Bits.{bitAt};
+ghost use Rattle.rows.specs.Rows.{rows, rowValues, HasRow, byRule, size};
+use rules::ROW_WORDS;
+
+// The bits of a word, and of a row.
+const WORD_BITS: usize = 64;
+
+const ROW_VALUES: usize = WORD_BITS * ROW_WORDS;
+
+// Whether a row has a value.
+pub fn contains(t: &[u64], row: usize, v: usize) -> bool
+    requires { ⌜ HasRow (now t) row × (v < rowValues) ⌝ }
+    ensures { λ r. ⌜ r ≡ rows (now (t .entry)) row v ⌝ }
+{
+    t[ROW_WORDS * row + v / WORD_BITS] >> (v % WORD_BITS) & 1 == 1
+}
+
+// The word in which only the bit of a value is set.
+fn bit_of(v: usize) -> u64
+    ensures { λ r. ⌜ r ≡ 2 ^ (v % 64) ⌝ }
+{
+    1u64 << (v % WORD_BITS)
+}
+
+// A row gets a value.
+pub fn insert(t: &mut [u64], row: usize, v: usize)
+    requires { ⌜ HasRow (now t) row × (v < rowValues) ⌝ }
+    ensures { λ _. ⌜ rows (now (t .exit)) ≡ update row (adding (v ∷ []) (rows (now (t .entry)) row)) (rows (now (t .entry))) ⌝ }
+{
+    let i = ROW_WORDS * row + v / WORD_BITS;
+    t[i] = t[i] | bit_of(v);
+}
+
+// A row loses a value.
+pub fn remove(t: &mut [u64], row: usize, v: usize)
+    requires { ⌜ HasRow (now t) row × (v < rowValues) ⌝ }
+    ensures { λ _. ⌜ rows (now (t .exit)) ≡ update row (removing (v ∷ []) (rows (now (t .entry)) row)) (rows (now (t .entry))) ⌝ }
+{
+    let i = ROW_WORDS * row + v / WORD_BITS;
+    t[i] = t[i] & !bit_of(v);
+}
+
+// A row gets what a row of another table has.
+pub fn join(to: &mut [u64], row: usize, from: &[u64], other: usize)
+    requires { ⌜ HasRow (now to) row × HasRow (now from) other ⌝ }
+    ensures { λ _. ⌜ rows (now (to .exit)) ≡ update row (union (rows (now (to .entry)) row) (rows (now (from .entry)) other)) (rows (now (to .entry))) ⌝ }
+{
+    let at = ROW_WORDS * row;
+    let source = ROW_WORDS * other;
+    let mut k = 0;
+    while k < ROW_WORDS {
+        to[at + k] = to[at + k] | from[source + k];
+        k += 1;
+    }
+}
+
+// A row becomes what a row of another table is.
+pub fn copy_row(to: &mut [u64], row: usize, from: &[u64], other: usize)
+    requires { ⌜ HasRow (now to) row × HasRow (now from) other ⌝ }
+    ensures { λ _. ⌜ rows (now (to .exit)) ≡ update row (rows (now (from .entry)) other) (rows (now (to .entry))) ⌝ }
+{
+    let at = ROW_WORDS * row;
+    let source = ROW_WORDS * other;
+    let mut k = 0;
+    while k < ROW_WORDS {
+        to[at + k] = from[source + k];
+        k += 1;
+    }
+}
+
+// A word of live-in with what the block's rule adds: its uses, and of live-out what the block does not kill.
+fn word_through(ins: u64, outs: u64, uses: u64, kills: u64) -> u64
+    ensures { λ r. ⌜ ((i : ℕ) → i < 64 → bitAt r i ≡ (bitAt ins i || (bitAt uses i || (bitAt outs i && not (bitAt kills i))))) ⌝ }
+{
+    ins | (uses | outs & !kills)
+}
+
+// A block's row of live-in gets what its rule gives from its row of live-out.
+pub fn transfer(ins: &mut [u64], row: usize, outs: &[u64], uses: &[u64], kills: &[u64])
+    requires { ⌜ HasRow (now ins) row × HasRow (now outs) row × HasRow (now uses) row × HasRow (now kills) row ⌝ }
+    ensures { λ _. ⌜ rows (now (ins .exit)) ≡ update row (union (rows (now (ins .entry)) row) (byRule (rows (now (uses .entry)) row) (rows (now (kills .entry)) row) (rows (now (outs .entry)) row))) (rows (now (ins .entry))) ⌝ }
+{
+    let at = ROW_WORDS * row;
+    let mut k = 0;
+    while k < ROW_WORDS {
+        let i = at + k;
+        ins[i] = word_through(ins[i], outs[i], uses[i], kills[i]);
+        k += 1;
+    }
+}
+
+// How many values a row has: the Rust's `len()` of a set.
+pub fn count(t: &[u64], row: usize) -> usize
+    requires { ⌜ HasRow (now t) row ⌝ }
+    ensures { λ r. ⌜ r ≡ size (rows (now (t .entry)) row) ⌝ }
+{
+    let mut found: usize = 0;
+    let mut v = 0;
+    while v < ROW_VALUES {
+        if contains(t, row, v) {
+            found += 1;
+        }
+        v += 1;
+    }
+    found
+}
