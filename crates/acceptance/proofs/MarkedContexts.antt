@@ -5,7 +5,7 @@ use mathlib.Core.Bool.{Bool, true, false, _&&_, _||_}
 use mathlib.Core.List.{List, _∷_, map}
 use native.Mathlib.Omega.{arith}
 use native.Mathlib.Numerals.{add-one}
-use lib.ListN.{getD, drop}
+use lib.ListN.{length, getD, drop}
 use lib.Seq.{drop-cons, drop-length}
 use lib.Dec.{eqb}
 use Rattle.rules.specs.Lists.{any}
@@ -13,14 +13,15 @@ use Rattle.rules.specs.Tree.{Function}
 use Rattle.rules.specs.Records.{encode, kind, recordAt, recordCount}
 use Rattle.rules.specs.File.{ofKind, named, functionIn}
 use Rattle.rules.specs.Graph.{blockAt, isMarked, instructionsOf, reachable}
-use Rattle.rules.specs.Refusals.{markedContext}
 use Rattle.rules.specs.declared.Record.{Record}
 use Rattle.rules.specs.declared.Words.{Words}
 use Rattle.lists.specs.Anys.{any-concatMap}
 use Rattle.graph.specs.Between.{between, between-none, between-next}
 use Rattle.graph.specs.Blocks.{contexts-by-place}
 use Rattle.graph.specs.Links.{Walked}
-use Rattle.graph.specs.ByTable.{body-by-table, block-at-index, block-listed}
+use Rattle.graph.specs.Tables.{Given}
+use Rattle.acceptance.specs.Marked.{blockMarked}
+use Rattle.graph.specs.ByTable.{body-by-table, block-at-index}
 
 module _ (s : List ℕ) where
   abbrev f : Function
@@ -53,35 +54,25 @@ module _ (s : List ℕ) where
   pub marked-none : (p q : ℕ) → p ≡ q → markedBetween p q ≡ false
   marked-none p q e = rw (e, between-none s q) refl
 
-  -- a block has a marked context
-  abbrev pub blockMarked : ℕ → Bool
-  blockMarked b = any (λ i. any (isMarked f) (i .contexts)) (instructionsOf (blockAt f b))
+  -- a block has one if one stands between its places
+  pub blockMarked-by-table :
+      (places : List ℕ) → Given s places → (b : ℕ) → b < length (f .blocks)
+      → blockMarked f b ≡ markedBetween (getD places b 0 + 1) (getD places (b + 1) 0)
+  blockMarked-by-table places g b l =
+      sym (any-concatMap (isMarked f) (λ i. i .contexts) (instructionsOf (blockAt f b)))
+      ∙ ap (any (isMarked f)) (contexts-by-place s (g .inOrder) b l)
+      ∙ ap (λ (rs : List Record). any (isMarked f) (named 9 rs)) (sym (body-by-table s places g b l))
 
   -- the blocks from index j on have one
   abbrev pub markedFrom : ℕ → Bool
-  markedFrom j = any blockMarked (drop j (reachable f))
-
-  pub marked-all : markedFrom 0 ≡ markedContext f
-  marked-all = refl
+  markedFrom j = any (blockMarked f) (drop j (reachable f))
 
   module _ {places order : List ℕ} {count : ℕ} (w : Walked s places order count) (j : ℕ) where
     pub markedFrom-done : j ≡ count → markedFrom j ≡ false
-    markedFrom-done e = ap (any blockMarked) (ap (λ (n : ℕ). drop n (reachable f)) (e ∙ w .counted) ∙ drop-length (reachable f))
+    markedFrom-done e = ap (any (blockMarked f)) (ap (λ (n : ℕ). drop n (reachable f)) (e ∙ w .counted) ∙ drop-length (reachable f))
 
-    module _ (l : j < count) where
-      abbrev b : ℕ
-      b = getD order j 0
-
-      -- the block of index j, by its table
-      blockMarked-by-table : blockMarked b ≡ markedBetween (getD places b 0 + 1) (getD places (b + 1) 0)
-      blockMarked-by-table =
-          sym (any-concatMap (isMarked f) (λ i. i .contexts) (instructionsOf (blockAt f b)))
-          ∙ ap (any (isMarked f)) (contexts-by-place s (w .given .inOrder) b (block-listed w j l))
-          ∙ ap (λ (rs : List Record). any (isMarked f) (named 9 rs)) (sym (body-by-table s places (w .given) b (block-listed w j l)))
-
-      pub markedFrom-more : markedFrom j ≡ markedBetween (getD places b 0 + 1) (getD places (b + 1) 0) || markedFrom (j + 1)
-      markedFrom-more =
-          ap (any blockMarked) (drop-cons (reachable f) j 0 (omega (arith, w .counted)))
-          ∙ ap (λ (x : ℕ). blockMarked x || any blockMarked (drop (suc j) (reachable f))) (sym (block-at-index w j))
-          ∙ ap (λ (t : Bool). t || any blockMarked (drop (suc j) (reachable f))) blockMarked-by-table
-          ∙ ap (λ (n : ℕ). markedBetween (getD places b 0 + 1) (getD places (b + 1) 0) || any blockMarked (drop n (reachable f))) (sym (add-one j))
+    pub markedFrom-more : j < count → markedFrom j ≡ blockMarked f (getD order j 0) || markedFrom (j + 1)
+    markedFrom-more l =
+        ap (any (blockMarked f)) (drop-cons (reachable f) j 0 (omega (arith, w .counted)))
+        ∙ ap (λ (x : ℕ). blockMarked f x || any (blockMarked f) (drop (suc j) (reachable f))) (sym (block-at-index w j))
+        ∙ ap (λ (n : ℕ). blockMarked f (getD order j 0) || any (blockMarked f) (drop n (reachable f))) (sym (add-one j))

@@ -1,7 +1,8 @@
 // Refusal 8: a marked context in a reachable block.
 ghost use mathlib.Core.Path.{_≡_};
 ghost use mathlib.Core.Bool.{true, _&&_};
-ghost use Prim.Native.Nat.{_≤_};
+ghost use Prim.Native.Nat.{_<_, _≤_};
+ghost use lib.ListN.{length};
 ghost use lib.Dec.{eqb};
 ghost use Rattle.rules.specs.Lists.{any};
 ghost use Rattle.rules.specs.Records.{records, recordCount};
@@ -10,6 +11,8 @@ ghost use Rattle.rules.specs.Graph.{isMarked};
 ghost use Rattle.rules.specs.Refusals.{markedContext};
 ghost use Rattle.graph.specs.Between.{between};
 ghost use Rattle.graph.specs.Links.{Walked};
+ghost use Rattle.graph.specs.Tables.{Given};
+ghost use Rattle.acceptance.specs.Marked.{blockMarked};
 use records::record_at;
 use records::values::is_marked;
 use records::words_of;
@@ -41,6 +44,14 @@ fn marked_between(s: &[u8], start: usize, end: usize) -> bool
     false
 }
 
+// Whether a marked context stands in block b.
+fn marked_in_block(s: &[u8], places: &[usize], b: usize) -> bool
+    requires { ⌜ Given (now s) (now places) × (b < length (functionIn (now s) .blocks)) ⌝ }
+    ensures { λ r. ⌜ r ≡ blockMarked (functionIn (now (s .entry))) b ⌝ }
+{
+    marked_between(s, places[b] + 1, places[b + 1])
+}
+
 // Whether a marked context stands in a reachable block.
 pub fn marked_context(s: &[u8], places: &[usize], order: &[usize], count: usize) -> bool
     requires { ⌜ Walked (now s) (now places) (now order) count ⌝ }
@@ -49,7 +60,7 @@ pub fn marked_context(s: &[u8], places: &[usize], order: &[usize], count: usize)
     let mut i: usize = 0;
     while i < count {
         let b = order[i];
-        if marked_between(s, places[b] + 1, places[b + 1]) {
+        if marked_in_block(s, places, b) {
             return true;
         }
         i += 1;

@@ -9,6 +9,8 @@ use Rattle.rules.specs.Records.{recordCount, records}
 use Rattle.rules.specs.File.{named, functionIn}
 use Rattle.rules.specs.Graph.{successors, reachable}
 use Rattle.lists.specs.Members.{getD-∈}
+use Rattle.lists.specs.Lack.{nodup-length-le}
+use Rattle.walks.specs.Reachable.{reachable-nodup}
 use Rattle.walks.specs.InFile.{blocks-some, reachable-in-file}
 use Rattle.graph.specs.Zeros.{getD-padded, length-padded-le}
 use Rattle.graph.specs.Between.{between}
@@ -71,3 +73,14 @@ module _ {s places order : List ℕ} {count : ℕ} (w : Walked s places order co
         rw block-at-index
         (reachable-in-file (functionIn s) (w .given .inFile) (some s places (w .given))
         (getD-∈ (reachable (functionIn s)) j 0 (omega (arith, w .counted))))
+
+-- No more blocks are reachable than there are.
+pub walked-few : {s places order : List ℕ} {count : ℕ} → Walked s places order count → count ≤ length (functionIn s .blocks)
+walked-few {s} {places} w =
+    let f = functionIn s in
+    omega (
+      arith,
+      w .counted,
+      nodup-length-le (length (f .blocks)) (reachable f) (reachable-nodup f)
+          (λ x. reachable-in-file f (w .given .inFile) (some s places (w .given))),
+    )

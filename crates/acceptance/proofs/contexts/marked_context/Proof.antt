@@ -1,8 +1,7 @@
 -- `acceptance::contexts::marked_context` meets its contract.
 use borrow.Author.Needs.{needs}
 use Rattle.acceptance.proofs.MarkedContexts.{markedFrom, markedFrom-more, markedFrom-done}
-use Rattle.lists.specs.Tests.{is-true}
-use Rattle.graph.specs.ByTable.{index-long, block-listed, places-long, end-le, start-less}
+use Rattle.graph.specs.ByTable.{index-long, block-listed, walked-few}
 use Rattle.rules.specs.File.{functionIn}
 use Rattle.rules.specs.Refusals.{markedContext}
 use native.Mathlib.Omega.{arith}
@@ -27,33 +26,13 @@ mul-b c = omega (arith, index-long (c .before .before .before .before .before .p
 shared-slice-read-b : tie.Need-shared-slice-read-b Inv-loop μ-loop
 shared-slice-read-b c = index-long (c .before .before .before .before .before .before .pre) (c .before .before .loop .i) (c .before .loop-test .taken)
 
-mul-marked-between : tie.Need-mul-marked-between Inv-loop μ-loop
-mul-marked-between c = omega (arith, block-listed (c .before .before .before .before .before .before .pre) (c .before .before .loop .i) (c .before .loop-test .taken), places-long (c .before .before .before .before .before .before .args .s .now) (c .before .before .before .before .before .before .args .places .now) (c .before .before .before .before .before .before .pre .given))
-
-shared-slice-read-marked-between : tie.Need-shared-slice-read-marked-between Inv-loop μ-loop
-shared-slice-read-marked-between c = omega (arith, block-listed (c .before .before .before .before .before .before .before .pre) (c .before .before .before .loop .i) (c .before .before .loop-test .taken), places-long (c .before .before .before .before .before .before .before .args .s .now) (c .before .before .before .before .before .before .before .args .places .now) (c .before .before .before .before .before .before .before .pre .given))
-
-add-marked-between : tie.Need-add-marked-between Inv-loop μ-loop
-add-marked-between c = let l = block-listed (c .before .before .before .before .before .before .before .pre) (c .before .before .before .loop .i) (c .before .before .loop-test .taken) in omega (arith, start-less (c .before .before .before .before .before .before .before .args .s .now) (c .before .before .before .before .before .before .before .args .places .now) (c .before .before .before .before .before .before .before .pre .given) _ l, end-le (c .before .before .before .before .before .before .before .args .s .now) (c .before .before .before .before .before .before .before .args .places .now) (c .before .before .before .before .before .before .before .pre .given) _ l)
-
-add-marked-between-2 : tie.Need-add-marked-between-2 Inv-loop μ-loop
-add-marked-between-2 c = omega (arith, block-listed (c .before .before .before .before .before .before .before .pre) (c .before .before .before .loop .i) (c .before .before .loop-test .taken), places-long (c .before .before .before .before .before .before .before .args .s .now) (c .before .before .before .before .before .before .before .args .places .now) (c .before .before .before .before .before .before .before .pre .given))
-
-mul-marked-between-2 : tie.Need-mul-marked-between-2 Inv-loop μ-loop
-mul-marked-between-2 c = omega (arith, block-listed (c .before .before .before .before .before .before .before .pre) (c .before .before .before .loop .i) (c .before .before .loop-test .taken), places-long (c .before .before .before .before .before .before .before .args .s .now) (c .before .before .before .before .before .before .before .args .places .now) (c .before .before .before .before .before .before .before .pre .given))
-
-shared-slice-read-marked-between-2 : tie.Need-shared-slice-read-marked-between-2 Inv-loop μ-loop
-shared-slice-read-marked-between-2 c = omega (arith, block-listed (c .before .before .before .before .before .before .before .before .pre) (c .before .before .before .before .loop .i) (c .before .before .before .loop-test .taken), places-long (c .before .before .before .before .before .before .before .before .args .s .now) (c .before .before .before .before .before .before .before .before .args .places .now) (c .before .before .before .before .before .before .before .before .pre .given))
-
-marked-between-requires : tie.Need-marked-between-requires Inv-loop μ-loop
-marked-between-requires c κs =
-    let l = block-listed (c .before .before .before .before .before .before .before .before .pre) (c .before .before .before .before .loop .i) (c .before .before .before .loop-test .taken) in
-    (is-true _ (c .before .before .before .before .before .before .before .before .pre .given .inOrder), start-less (c .before .before .before .before .before .before .before .before .args .s .now) (c .before .before .before .before .before .before .before .before .args .places .now) (c .before .before .before .before .before .before .before .before .pre .given) _ l, end-le (c .before .before .before .before .before .before .before .before .args .s .now) (c .before .before .before .before .before .before .before .before .args .places .now) (c .before .before .before .before .before .before .before .before .pre .given) _ l)
+marked-in-block-requires : tie.Need-marked-in-block-requires Inv-loop μ-loop
+marked-in-block-requires c κs = (c .before .before .before .before .before .before .pre .given, omega (arith, block-listed (c .before .before .before .before .before .before .pre) (c .before .before .loop .i) (c .before .loop-test .taken), walked-few (c .before .before .before .before .before .before .pre)))
 
 returns : tie.Need-returns Inv-loop μ-loop
 returns c =
-    let s = c .before .before .before .before .before .before .before .before .before .before .args .s .now in
-    sym (ap (λ b. b || markedFrom s (c .before .before .before .before .before .before .loop .i + 1)) (sym (c .before .marked-between .ensures) ∙ c .if1 .taken)) ∙ sym (markedFrom-more s (c .before .before .before .before .before .before .before .before .before .before .pre) (c .before .before .before .before .before .before .loop .i) (c .before .before .before .before .before .loop-test .taken)) ∙ c .before .before .before .before .before .before .loop .inv .1
+    let s = c .before .before .before .before .before .before .before .before .args .s .now in
+    sym (ap (λ b. b || markedFrom s (c .before .before .before .before .loop .i + 1)) (sym (c .before .marked-in-block .ensures) ∙ c .if1 .taken)) ∙ sym (markedFrom-more s (c .before .before .before .before .before .before .before .before .pre) (c .before .before .before .before .loop .i) (c .before .before .before .loop-test .taken)) ∙ c .before .before .before .before .loop .inv .1
 
 add-i : tie.Need-add-i Inv-loop μ-loop
 add-i c = search needs
@@ -63,8 +42,8 @@ loop-less c = search needs
 
 loop-again : tie.Need-loop-again Inv-loop μ-loop
 loop-again c =
-    let s = c .before .before .before .before .before .before .before .before .before .before .args .s .now in
-    (omega arith, sym (ap (λ b. b || markedFrom s (c .before .before .before .before .before .before .loop .i + 1)) (sym (c .before .marked-between .ensures) ∙ c .if1 .left)) ∙ sym (markedFrom-more s (c .before .before .before .before .before .before .before .before .before .before .pre) (c .before .before .before .before .before .before .loop .i) (c .before .before .before .before .before .loop-test .taken)) ∙ c .before .before .before .before .before .before .loop .inv .1)
+    let s = c .before .before .before .before .before .before .before .before .args .s .now in
+    (omega arith, sym (ap (λ b. b || markedFrom s (c .before .before .before .before .loop .i + 1)) (sym (c .before .marked-in-block .ensures) ∙ c .if1 .left)) ∙ sym (markedFrom-more s (c .before .before .before .before .before .before .before .before .pre) (c .before .before .before .before .loop .i) (c .before .before .before .loop-test .taken)) ∙ c .before .before .before .before .loop .inv .1)
 
 returns-2 : tie.Need-returns-2 Inv-loop μ-loop
 returns-2 c = sym (markedFrom-done (c .before .before .before .before .before .args .s .now) (c .before .before .before .before .before .pre) (c .before .loop .i) (omega arith)) ∙ c .before .loop .inv .1
@@ -78,13 +57,7 @@ marked-context-spec =
     loop-holds
     mul-b
     shared-slice-read-b
-    mul-marked-between
-    shared-slice-read-marked-between
-    add-marked-between
-    add-marked-between-2
-    mul-marked-between-2
-    shared-slice-read-marked-between-2
-    marked-between-requires
+    marked-in-block-requires
     returns
     add-i
     loop-less
