@@ -1,7 +1,7 @@
 -- What a worklist holds: the blocks still to visit, top first, no block twice.
 use Prim.Native.Nat.{ℕ, _<_, _≤_}
 use native.Mathlib.Omega.{arith}
-use mathlib.Core.Path.{_≡_, refl, sym}
+use mathlib.Core.Path.{_≡_, refl}
 use mathlib.Core.Bool.{true, false, not, false≢true}
 use mathlib.Core.List.{List, [], _∷_, List·Nodup, nodup-nil, nodup-cons}
 use lib.ListN.{length, getD}

@@ -1,4 +1,4 @@
--- `rows::join` meets its contract. The invariant: the first k words of the row have what both rows have.
+-- `rows::join` meets its contract. The invariant: the first k words of the row have what either row had.
 use Prim.Native.Nat.{_≤_, _-_}
 use native.Mathlib.Omega.{arith}
 use mathlib.Core.Bool.{_||_}
