@@ -9,6 +9,8 @@ pub mod compare;
 pub mod decision;
 pub mod fixed;
 pub mod generate;
+#[cfg(feature = "library")]
+pub mod library;
 pub mod record;
 pub mod services;
 pub mod sheets;

@@ -13,7 +13,9 @@ use std::time::Instant;
 const USAGE: &str = "\
 oracle compare [--files N] [--seed S]   the source module against the plain decision on N generated files
 oracle sheets                           both on document 01's sheets P1 to P11
-oracle fixed --write | --check          makes the fixed list, or makes it again, compares and replays it";
+oracle fixed --write | --check          makes the fixed list, or makes it again, compares and replays it
+oracle library [--files N] [--seed S]   the library written in Rattle: replays the fixed list's refusals, and compares its
+                                        checks with the plain decision's on N generated files (feature `library`)";
 
 /// Where the list stands, from the package's folder or from the repository's.
 const LISTS: [&str; 2] = ["fixed/answers.txt", "oracle/fixed/answers.txt"];
@@ -27,6 +29,8 @@ fn main() -> ExitCode {
         ["sheets"] => sheets(),
         ["fixed", "--write"] => write_fixed(),
         ["fixed", "--check"] => check_fixed(),
+        #[cfg(feature = "library")]
+        ["library", options @ ..] => library(options),
         _ => Err(USAGE.to_string()),
     };
     match good {
@@ -74,6 +78,33 @@ fn compare(options: &[&str]) -> Result<(), String> {
         count => return Err(format!("{count} differences")),
     }
     Ok(())
+}
+
+#[cfg(feature = "library")]
+fn library(options: &[&str]) -> Result<(), String> {
+    use oracle::{compare::refusals_batch, fixed::replay_refusals, library::check};
+    let path = list_path()?;
+    let list = fs::read_to_string(path).map_err(|error| format!("{path}: {error}"))?;
+    let (refused, let_pass) = replay_refusals(&list, check)?;
+    println!("{path}: {refused} lines with a refusal of 2 to 8 and {let_pass} without, replayed");
+    let (files, seed) = files_and_seed(options)?;
+    let start = Instant::now();
+    let met = refusals_batch(check, seed, files);
+    let seconds = start.elapsed().as_secs_f64();
+    for ((family, refusal), count) in &met.counts {
+        println!(
+            "{:12} {:>8} {}",
+            format!("{family:?}"),
+            count,
+            if *refusal == 0 { "accepted".to_string() } else { format!("refused {refusal}") }
+        );
+    }
+    println!("the library's checks on {files} files of seed {seed}, {seconds:.1} s with the decision's");
+    met.differences.iter().take(20).for_each(|difference| println!("{difference}"));
+    match met.differences.len() {
+        0 => Ok(()),
+        count => Err(format!("{count} differences")),
+    }
 }
 
 fn sheets() -> Result<(), String> {

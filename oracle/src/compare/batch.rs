@@ -107,7 +107,8 @@ pub fn batch(seed: u64, files: u64) -> Tally {
     tally
 }
 
-fn small_file(file: &[u8], told: usize, differs: impl FnMut(&[u8]) -> bool) -> String {
+/// The smallest file found that still differs, in document 01's notation; nothing where enough were told.
+pub(super) fn small_file(file: &[u8], told: usize, differs: impl FnMut(&[u8]) -> bool) -> String {
     if told < SHRUNK { format!("\n  {}", text(&records(&shrink(file, differs)))) } else { String::new() }
 }
 

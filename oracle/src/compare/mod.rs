@@ -2,10 +2,12 @@
 
 mod against_module;
 mod batch;
+mod refusals;
 mod shrink;
 mod whole_answers;
 
 pub use against_module::{Met, against_module};
 pub use batch::{Tally, batch, services_batch};
+pub use refusals::{Refusals, refusals_batch};
 pub use shrink::shrink;
 pub use whole_answers::whole_answers;

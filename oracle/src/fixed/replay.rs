@@ -39,6 +39,33 @@ pub fn replay(list: &str, party: &mut dyn Services) -> Result<Replayed, String> 
     }
 }
 
+/// Replays every line that gives a refusal of 2 to 8, and every one that gives none of them, against what is said of the
+/// file; answers how many of each.
+pub fn replay_refusals(list: &str, check: impl Fn(&[u8]) -> u32) -> Result<(u64, u64), String> {
+    let mut reader = Reader { lines: list.lines(), next: None };
+    let (mut number, mut said, mut refused, mut let_pass) = (0, 0, 0, 0);
+    while let Some((letter, numbers)) = reader.next() {
+        let refusal = match letter {
+            'N' => {
+                number += 1;
+                said = check(&file(&mut reader)?);
+                continue;
+            }
+            'L' | 'Q' | 'W' => numbers[2],
+            'P' => numbers[0],
+            _ => continue,
+        };
+        match refusal {
+            1 => continue,
+            2..=8 => refused += 1,
+            _ => let_pass += 1,
+        }
+        let listed = if (2..=8).contains(&refusal) { refusal as u32 } else { 0 };
+        same(&format!("file {number}, line {letter}"), listed, said)?;
+    }
+    Ok((refused, let_pass))
+}
+
 struct Reader<'a> {
     lines: Lines<'a>,
     next: Option<(char, Vec<u64>)>,
@@ -86,6 +113,17 @@ fn exactly<const N: usize>(numbers: &[u64]) -> Result<[u64; N], String> {
     numbers.try_into().map_err(|_| format!("{N} numbers wanted, {numbers:?} found"))
 }
 
+/// The file behind a line N.
+fn file(reader: &mut Reader) -> Result<Vec<u8>, String> {
+    let [length] = exactly(&reader.line('B').ok_or("line B is missing")?)?;
+    let mut file = bytes(&reader.records('R', length as usize / RECORD_BYTES)?);
+    if let Some(rest) = reader.line('X') {
+        file.extend(rest.iter().map(|&byte| byte as u8));
+    }
+    same("length of the file", length as usize, file.len())?;
+    Ok(file)
+}
+
 struct Replay<'a> {
     party: &'a mut dyn Services,
     file: Vec<u8>,
@@ -96,14 +134,10 @@ struct Replay<'a> {
 
 impl Replay<'_> {
     fn file(&mut self, reader: &mut Reader) -> Result<(), String> {
-        let [length] = exactly(&reader.line('B').ok_or("line B is missing")?)?;
-        self.file = bytes(&reader.records('R', length as usize / RECORD_BYTES)?);
-        if let Some(rest) = reader.line('X') {
-            self.file.extend(rest.iter().map(|&byte| byte as u8));
-        }
+        self.file = file(reader)?;
         self.outputs.clear();
         self.replayed.files += 1;
-        same("length of the file", length as usize, self.file.len())
+        Ok(())
     }
 
     fn liveness(&mut self, numbers: &[u64], reader: &mut Reader) -> Result<(), String> {
