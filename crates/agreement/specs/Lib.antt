@@ -1,1 +1,3 @@
 pub mod Entries
+pub mod Numbers
+pub mod Plans

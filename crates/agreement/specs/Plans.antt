@@ -1,0 +1,308 @@
+-- What planning leaves: the numbers of every reachable block's definitions, operands and edges are new, and those that are
+-- loaded before one instruction ascend.
+use Prim.Native.Nat.{ℕ, suc, _+_, _≤_, _<_}
+use native.Mathlib.Omega.{arith}
+use mathlib.Core.Path.{_≡_, refl, sym, ap, subst, _∙_}
+use mathlib.Core.Bool.{Bool, true, false, not, cond}
+use mathlib.Core.Option.{Option, none, some}
+use mathlib.Core.List.{List, [], _∷_, _++_, map}
+use lib.ListN.{length}
+use lib.Dec.{T, T-not}
+use Rattle.rules.specs.Lists.{any, keep, zipWith, concatZip, members, isNone}
+use Rattle.rules.specs.Tree.{Value, Edge, Instruction, Function}
+use Rattle.rules.specs.Graph.{blockAt, sizeOf, valuesAmong, instructionsOf, reachable}
+use Rattle.rules.specs.Liveness.{isSpilled, process, listsOf, listedInstructions}
+use Rattle.rules.specs.Slots.{noSlots}
+use Rattle.rules.specs.Plan.{Plan, Made, EdgePlan, InstructionPlan, BlockPlan, Planning, _>>=_, pure, forEach, forEachBackward}
+use Rattle.rules.specs.Plan.{planSlot, planStore, planDefinition, planUse, planEdgeUse, planEdge, planLanding, planSafepointEdge}
+use Rattle.rules.specs.Plan.{planInstruction, planBlock, planned}
+use Rattle.rules.specs.declared.EdgeArgument.{EdgeArgument}
+use Rattle.rules.specs.declared.EdgeArgument.the-variants as passes
+use Rattle.lists.specs.Members.{_∈_, here, there, not-∈-nil, ∈-elim}
+use Rattle.simulation.specs.Related.{Each}
+use Rattle.agreement.specs.Numbers.{neither, valueCount, one-more, Numbered, numbered-grows, arguments-numbered, uses-numbered}
+use Rattle.agreement.specs.Numbers.{landed-numbered, unspilled-numbered}
+
+-- LOADS. Which values are loaded for operands, each with its address, in order.
+abbrev pub loaded : List EdgeArgument → List Made → List (ℕ × ℕ)
+loaded [] ns = []
+loaded (_ ∷ _) [] = []
+loaded (passes.Value v ∷ xs) (none ∷ ns) = loaded xs ns
+loaded (passes.Value v ∷ xs) (some a ∷ ns) = (v, a) ∷ loaded xs ns
+loaded (passes.Returned _ ∷ xs) (_ ∷ ns) = loaded xs ns
+loaded (passes.Exception _ ∷ xs) (_ ∷ ns) = loaded xs ns
+
+-- what an edge without a landing has loaded before its instruction
+abbrev pub edgeLoaded : Edge → EdgePlan → List (ℕ × ℕ)
+edgeLoaded e n = elim (n .landing) [ none ↦ loaded (e .arguments) (n .arguments) | some _ ↦ [] ]
+
+-- what is loaded before an instruction
+abbrev pub loadedBefore : Instruction → InstructionPlan → List (ℕ × ℕ)
+loadedBefore i n = loaded (map passes.Value (i .arguments)) (n .arguments) ++ concatZip edgeLoaded (i .edges) (n .edges)
+
+-- the addresses ascend from lo on, with room for the loaded value behind each, below hi
+abbrev pub Ascending : ℕ → ℕ → List (ℕ × ℕ) → Type 0
+Ascending lo hi [] = lo ≤ hi
+Ascending lo hi (l ∷ ls) = (lo ≤ l .1) × Ascending (suc (suc (l .1))) hi ls
+
+ascending-from : (lower lo hi : ℕ) (ls : List (ℕ × ℕ)) → lower ≤ lo → Ascending lo hi ls → Ascending lower hi ls
+ascending-from lower lo hi [] h a = omega arith
+ascending-from lower lo hi (l ∷ ls) h a = (omega (arith, a .0), a .1)
+
+ascending-append : (lo mid hi : ℕ) (xs ys : List (ℕ × ℕ)) → Ascending lo mid xs → Ascending mid hi ys → Ascending lo hi (xs ++ ys)
+ascending-append lo mid hi [] ys a b = ascending-from lo mid hi ys a b
+ascending-append lo mid hi (x ∷ xs) ys a b = (a .0, ascending-append (suc (suc (x .1))) mid hi xs ys (a .1) b)
+
+module _ (f : Function) (landing : Bool) where
+  numbered-ascending : (lo hi : ℕ) (xs : List EdgeArgument) (ns : List Made) → Numbered f landing lo hi xs ns
+      → Ascending lo hi (loaded xs ns)
+  numbered-ascending lo hi [] [] h = h
+  numbered-ascending lo hi [] (_ ∷ _) h = absurd h
+  numbered-ascending lo hi (passes.Value v ∷ xs) [] h = absurd h
+  numbered-ascending lo hi (passes.Returned k ∷ xs) [] h = absurd h
+  numbered-ascending lo hi (passes.Exception k ∷ xs) [] h = absurd h
+  numbered-ascending lo hi (passes.Value v ∷ xs) (none ∷ ns) h = numbered-ascending lo hi xs ns (h .1)
+  numbered-ascending lo hi (passes.Value v ∷ xs) (some a ∷ ns) h = (h .1, numbered-ascending (suc (suc a)) hi xs ns (h .2))
+  numbered-ascending lo hi (passes.Returned k ∷ xs) (none ∷ ns) h = numbered-ascending lo hi xs ns (h .1)
+  numbered-ascending lo hi (passes.Returned k ∷ xs) (some p ∷ ns) h =
+      ascending-from lo (suc p) hi (loaded xs ns) (omega (arith, h .1)) (numbered-ascending (suc p) hi xs ns (h .2))
+  numbered-ascending lo hi (passes.Exception k ∷ xs) (none ∷ ns) h = numbered-ascending lo hi xs ns (h .1)
+  numbered-ascending lo hi (passes.Exception k ∷ xs) (some p ∷ ns) h =
+      ascending-from lo (suc p) hi (loaded xs ns) (omega (arith, h .1)) (numbered-ascending (suc p) hi xs ns (h .2))
+
+-- what is not spilled is not loaded
+unspilled-loads-none : (f : Function) (lo hi : ℕ) (xs : List EdgeArgument) (ns : List Made)
+    → T (not (any (isSpilled f) (valuesAmong xs))) → Numbered f false lo hi xs ns → loaded xs ns ≡ []
+unspilled-loads-none f lo hi [] ns t h = refl
+unspilled-loads-none f lo hi (passes.Value v ∷ xs) [] t h = refl
+unspilled-loads-none f lo hi (passes.Returned k ∷ xs) [] t h = refl
+unspilled-loads-none f lo hi (passes.Exception k ∷ xs) [] t h = refl
+unspilled-loads-none f lo hi (passes.Value v ∷ xs) (none ∷ ns) t h =
+    unspilled-loads-none f lo hi xs ns (neither (isSpilled f v) (any (isSpilled f) (valuesAmong xs)) t .1) (h .1)
+unspilled-loads-none f lo hi (passes.Value v ∷ xs) (some a ∷ ns) t h =
+    absurd (T-not (isSpilled f v) (neither (isSpilled f v) (any (isSpilled f) (valuesAmong xs)) t .0) (h .0))
+unspilled-loads-none f lo hi (passes.Returned k ∷ xs) (none ∷ ns) t h = unspilled-loads-none f lo hi xs ns t (h .1)
+unspilled-loads-none f lo hi (passes.Returned k ∷ xs) (some p ∷ ns) t h = absurd (h .0)
+unspilled-loads-none f lo hi (passes.Exception k ∷ xs) (none ∷ ns) t h = unspilled-loads-none f lo hi xs ns t (h .1)
+unspilled-loads-none f lo hi (passes.Exception k ∷ xs) (some p ∷ ns) t h = absurd (h .0)
+
+-- THE NUMBERS OF A FILE
+module _ (f : Function) where
+  -- a value beyond the file's
+  abbrev pub New : ℕ → Type 0
+  New n = length (f .values) ≤ n
+
+  -- a definition that is stored is spilled, through a new address
+  abbrev pub Defined : ℕ → Made → Type 0
+  Defined v none = Unit
+  Defined v (some a) = T (isSpilled f v) × New a
+
+  -- an edge's operands by its landing; one without a landing passes nothing spilled over a safepoint
+  abbrev pub OperandsNumbered : Bool → List EdgeArgument → Option ℕ → List Made → ℕ → ℕ → Type 0
+  OperandsNumbered safepoint xs none ns lo hi = Numbered f false lo hi xs ns × (T safepoint → T (not (any (isSpilled f) (valuesAmong xs))))
+  OperandsNumbered safepoint xs (some _) ns lo hi = Numbered f true lo hi xs ns
+
+  -- and all their numbers are new
+  abbrev pub EdgeNumbered : Bool → Edge → EdgePlan → Type 0
+  EdgeNumbered safepoint e n =
+      (lo : ℕ) × (hi : ℕ) × New lo × OperandsNumbered safepoint (e .arguments) (n .landing) (n .arguments) lo hi
+
+  pub record InstructionNumbered (x : Instruction × Option (List ℕ)) (n : InstructionPlan) : Type 0 where
+    pub first : ℕ
+    pub last : ℕ
+    pub new : New first
+    pub arguments : Numbered f false first last (map passes.Value (x .0 .arguments)) (n .arguments)
+    pub edges : Each (EdgeNumbered (not (isNone (x .1)))) (x .0 .edges) (n .edges)
+    pub loads : (end : ℕ) × Ascending first end (loadedBefore (x .0) n)
+    pub results : Each Defined (x .0 .results) (n .results)
+
+  pub record BlockNumbered (b : ℕ) (n : BlockPlan) : Type 0 where
+    pub parameters : Each Defined (blockAt f b .parameters) (n .parameters)
+    pub instructions : Each InstructionNumbered (listedInstructions f b) (n .instructions)
+
+  -- an edge passes as many as its target has parameters
+  abbrev pub Fits : Edge → Type 0
+  Fits e = length (e .arguments) ≡ length (blockAt f (e .target) .parameters)
+
+-- STEPS
+module _ {A B : Type 0} (k : A → Planning B) (R : A → B → Type 0) (n : ℕ) where
+  -- of each member a step leaves what it leaves of one, and counts stay above n
+  pub each-planned : (xs : List A) → ((x : A) → x ∈ xs → (p : Plan) → n ≤ valueCount p → R x (k x p .0) × (n ≤ valueCount (k x p .1)))
+      → (p : Plan) → n ≤ valueCount p
+      → Each R xs (forEach k xs p .0) × (n ≤ valueCount (forEach k xs p .1))
+  each-planned [] h p l = (tt, l)
+  each-planned (x ∷ xs) h p l =
+      let one = h x (here refl) p l in
+      let rest = each-planned xs (λ y m. h y (there m)) (k x p .1) (one .1) in
+      ((one .0, rest .0), rest .1)
+
+  pub each-planned-backward : (xs : List A)
+      → ((x : A) → x ∈ xs → (p : Plan) → n ≤ valueCount p → R x (k x p .0) × (n ≤ valueCount (k x p .1)))
+      → (p : Plan) → n ≤ valueCount p
+      → Each R xs (forEachBackward k xs p .0) × (n ≤ valueCount (forEachBackward k xs p .1))
+  each-planned-backward [] h p l = (tt, l)
+  each-planned-backward (x ∷ xs) h p l =
+      let rest = each-planned-backward xs (λ y m. h y (there m)) p l in
+      let one = h x (here refl) (forEachBackward k xs p .1) (rest .1) in
+      ((one .0, rest .0), one .1)
+
+module _ (f : Function) (pointer : ℕ) where
+  -- slots change no value
+  slots-planned : (vs : List ℕ) (p : Plan) → New f (valueCount p) → New f (valueCount (forEach (planSlot f pointer) vs p .1))
+  slots-planned vs p l = each-planned (planSlot f pointer) (λ _ _. Unit) (length (f .values)) vs (λ v m p l. (tt, l)) p l .1
+
+  definition-planned : (v : ℕ) (p : Plan) → New f (valueCount p)
+      → Defined f v (planDefinition f pointer v p .0) × New f (valueCount (planDefinition f pointer v p .1))
+  definition-planned v p l = go (isSpilled f v) (λ t. t) (p .slots .slotOf v)
+    where
+      go : (c : Bool) → (T c → T (isSpilled f v)) → (slot : Option ℕ)
+          → Defined f v (cond c (planStore f pointer v slot p) (none, p) .0)
+          × New f (valueCount (cond c (planStore f pointer v slot p) (none, p) .1))
+      go true s none = (tt, l)
+      go true s (some slot) = ((s tt, l), omega (arith, l, one-more (p .values) (record { size = pointer; marked = false })))
+      go false s slot = (tt, l)
+
+  definitions-planned : (vs : List ℕ) (p : Plan) → New f (valueCount p)
+      → Each (Defined f) vs (forEach (planDefinition f pointer) vs p .0)
+      × New f (valueCount (forEach (planDefinition f pointer) vs p .1))
+  definitions-planned vs = each-planned (planDefinition f pointer) (Defined f) (length (f .values)) vs (λ v m. definition-planned v)
+
+  -- EDGES without landings, and their loads
+  edge-planned : (e : Edge) (p : Plan) → New f (valueCount p)
+      → EdgeNumbered f false e (planEdge f pointer e p .0) × New f (valueCount (planEdge f pointer e p .1))
+  edge-planned e p l =
+      let h = uses-numbered f pointer (e .arguments) p in
+      let q = planEdge f pointer e p .1 in (
+        (valueCount p, valueCount q, l, (h, λ t. absurd t)),
+        omega (arith, l, numbered-grows f false (valueCount p) (valueCount q) (e .arguments) (planEdge f pointer e p .0 .arguments) h),
+      )
+
+  edges-ascending : (es : List Edge) (p : Plan)
+      → Ascending (valueCount p) (valueCount (forEach (planEdge f pointer) es p .1))
+      (concatZip edgeLoaded es (forEach (planEdge f pointer) es p .0))
+  edges-ascending [] p = omega arith
+  edges-ascending (e ∷ es) p =
+      let one = planEdge f pointer e p in
+      let rest = forEach (planEdge f pointer) es (one .1) in
+      ascending-append (valueCount p) (valueCount (one .1)) (valueCount (rest .1))
+      (loaded (e .arguments) (one .0 .arguments)) (concatZip edgeLoaded es (rest .0))
+      (numbered-ascending f false (valueCount p) (valueCount (one .1)) (e .arguments) (one .0 .arguments)
+      (uses-numbered f pointer (e .arguments) p))
+      (edges-ascending es (one .1))
+
+  -- at a safepoint
+  safepoint-edge-planned : (e : Edge) → Fits f e → (p : Plan) → New f (valueCount p)
+      → EdgeNumbered f true e (planSafepointEdge f pointer e p .0) × New f (valueCount (planSafepointEdge f pointer e p .1))
+  safepoint-edge-planned e fits p l = go (any (isSpilled f) (valuesAmong (e .arguments))) (λ t. t)
+    where
+      none-made : EdgePlan
+      none-made = record { landing = none; arguments = map (λ _. none) (e .arguments) }
+
+      go : (c : Bool) → (T (not c) → T (not (any (isSpilled f) (valuesAmong (e .arguments)))))
+          → EdgeNumbered f true e (cond c (planLanding f pointer e) (pure none-made) p .0)
+          × New f (valueCount (cond c (planLanding f pointer e) (pure none-made) p .1))
+      go true n =
+          let r = planLanding f pointer e p in
+          let h = landed-numbered f pointer (e .arguments) (blockAt f (e .target) .parameters) fits
+          (record { slots = p .slots; values = p .values; blocks = suc (p .blocks) }) in (
+            (valueCount p, valueCount (r .1), l, h),
+            omega (arith, l, numbered-grows f true (valueCount p) (valueCount (r .1)) (e .arguments) (r .0 .arguments) h),
+          )
+      go false n = ((valueCount p, valueCount p, l, (unspilled-numbered f pointer (e .arguments) (valueCount p) (n tt), λ _. n tt)), l)
+
+  -- no edge of a safepoint has anything loaded before it
+  safepoint-loads-none : (es : List Edge) (ns : List EdgePlan) → Each (EdgeNumbered f true) es ns → concatZip edgeLoaded es ns ≡ []
+  safepoint-loads-none [] ns h = refl
+  safepoint-loads-none (e ∷ es) [] h = refl
+  safepoint-loads-none (e ∷ es) (n ∷ ns) h =
+      go (n .landing) (n .arguments) (h .0) ∙ safepoint-loads-none es ns (h .1)
+    where
+      go : (l : Option ℕ) (ms : List Made) → EdgeNumbered f true e (record { landing = l; arguments = ms })
+          → edgeLoaded e (record { landing = l; arguments = ms }) ++ concatZip edgeLoaded es ns ≡ concatZip edgeLoaded es ns
+      go none ms h =
+          ap (λ ls. ls ++ concatZip edgeLoaded es ns)
+          (unspilled-loads-none f (h .0) (h .1) (e .arguments) ms (h .3 .1 tt) (h .3 .0))
+      go (some b) ms h = refl
+
+  -- INSTRUCTIONS
+  instruction-planned : (x : Instruction × Option (List ℕ)) → ((e : Edge) → e ∈ x .0 .edges → Fits f e) → (p : Plan) → New f (valueCount p)
+      → InstructionNumbered f x (planInstruction f pointer x p .0) × New f (valueCount (planInstruction f pointer x p .1))
+  instruction-planned (i, none) fits p l =
+      let rs = definitions-planned (i .results) p l in
+      let behind = forEach (planDefinition f pointer) (i .results) p .1 in
+      let us = forEach (planUse f pointer) (i .arguments) behind in
+      let numbered = arguments-numbered f pointer (i .arguments) behind in
+      let xs = map passes.Value (i .arguments) in
+      let grown = numbered-grows f false (valueCount behind) (valueCount (us .1)) xs (us .0) numbered in
+      let es =
+      each-planned (planEdge f pointer) (EdgeNumbered f false) (length (f .values)) (i .edges) (λ e m. edge-planned e) (us .1)
+      (omega (arith, rs .1, grown)) in
+      let end = forEach (planEdge f pointer) (i .edges) (us .1) in (
+        record {
+          first = valueCount behind;
+          last = valueCount (us .1);
+          new = rs .1;
+          arguments = numbered;
+          edges = es .0;
+          loads = (
+            valueCount (end .1),
+            ascending-append (valueCount behind) (valueCount (us .1)) (valueCount (end .1)) (loaded xs (us .0))
+                (concatZip edgeLoaded (i .edges) (end .0))
+                (numbered-ascending f false (valueCount behind) (valueCount (us .1)) xs (us .0) numbered)
+                (edges-ascending (i .edges) (us .1)),
+          );
+          results = rs .0;
+        },
+        es .1,
+      )
+  instruction-planned (i, some list) fits p l =
+      let rs = definitions-planned (i .results) p l in
+      let behind = forEach (planDefinition f pointer) (i .results) p .1 in
+      let given = forEach (planSlot f pointer) list behind .1 in
+      let es =
+      each-planned (planSafepointEdge f pointer) (EdgeNumbered f true) (length (f .values)) (i .edges)
+      (λ e m. safepoint-edge-planned e (fits e m)) given (slots-planned list behind (rs .1)) in
+      let led = forEach (planSafepointEdge f pointer) (i .edges) given in
+      let us = forEach (planUse f pointer) (i .arguments) (led .1) in
+      let numbered = arguments-numbered f pointer (i .arguments) (led .1) in
+      let xs = map passes.Value (i .arguments) in
+      let grown = numbered-grows f false (valueCount (led .1)) (valueCount (us .1)) xs (us .0) numbered in
+      let none-loaded = safepoint-loads-none (i .edges) (led .0) (es .0) in (
+        record {
+          first = valueCount (led .1);
+          last = valueCount (us .1);
+          new = es .1;
+          arguments = numbered;
+          edges = es .0;
+          loads = (
+            valueCount (us .1),
+            ascending-append (valueCount (led .1)) (valueCount (us .1)) (valueCount (us .1)) (loaded xs (us .0))
+                (concatZip edgeLoaded (i .edges) (led .0))
+                (numbered-ascending f false (valueCount (led .1)) (valueCount (us .1)) xs (us .0) numbered)
+                (subst (Ascending (valueCount (us .1)) (valueCount (us .1))) (sym none-loaded) (omega arith)),
+          );
+          results = rs .0;
+        },
+        omega (arith, es .1, grown),
+      )
+
+  -- BLOCKS
+  block-planned : (b : ℕ) → ((x : Instruction × Option (List ℕ)) → x ∈ listedInstructions f b → (e : Edge) → e ∈ x .0 .edges → Fits f e)
+      → (p : Plan) → New f (valueCount p)
+      → BlockNumbered f b (planBlock f pointer b p .0) × New f (valueCount (planBlock f pointer b p .1))
+  block-planned b fits p l =
+      let early = keep (isSpilled f) (members (length (f .values)) (process f .outs b)) in
+      let given = forEach (planSlot f pointer) early p .1 in
+      let is =
+      each-planned-backward (planInstruction f pointer) (InstructionNumbered f) (length (f .values)) (listedInstructions f b)
+      (λ x m. instruction-planned x (fits x m)) given (slots-planned early p l) in
+      let ps = definitions-planned (blockAt f b .parameters) (forEachBackward (planInstruction f pointer) (listedInstructions f b) given .1) (is .1) in
+      (record { parameters = ps .0; instructions = is .0 }, ps .1)
+
+  -- Every reachable block's numbers are as they should.
+  pub planned-numbered : ((b : ℕ) → b ∈ reachable f → (x : Instruction × Option (List ℕ)) → x ∈ listedInstructions f b → (e : Edge) → e ∈ x .0 .edges → Fits f e)
+      → Each (BlockNumbered f) (reachable f) (planned f pointer .0)
+  unfolding planned
+  planned-numbered fits =
+      each-planned (planBlock f pointer) (BlockNumbered f) (length (f .values)) (reachable f) (λ b m. block-planned b (fits b m))
+      (record { slots = noSlots; values = f .values; blocks = length (f .blocks) }) (omega arith) .0
