@@ -4,3 +4,5 @@ pub mod Plans
 pub mod Landings
 pub mod Items
 pub mod Accepted
+pub mod Layout
+pub mod Rewritten
