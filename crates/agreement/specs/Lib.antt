@@ -6,3 +6,4 @@ pub mod Items
 pub mod Accepted
 pub mod Layout
 pub mod Rewritten
+pub mod Spilled
