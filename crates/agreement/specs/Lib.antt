@@ -7,3 +7,5 @@ pub mod Accepted
 pub mod Layout
 pub mod Rewritten
 pub mod Spilled
+pub mod Keeping
+pub mod Changing
