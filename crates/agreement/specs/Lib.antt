@@ -9,3 +9,4 @@ pub mod Rewritten
 pub mod Spilled
 pub mod Keeping
 pub mod Changing
+pub mod Operands

@@ -54,7 +54,7 @@ ascending-append lo mid hi [] ys a b = ascending-from lo mid hi ys a b
 ascending-append lo mid hi (x ∷ xs) ys a b = (a .0, ascending-append (suc (suc (x .1))) mid hi xs ys (a .1) b)
 
 module _ (f : Function) (landing : Bool) where
-  numbered-ascending : (lo hi : ℕ) (xs : List EdgeArgument) (ns : List Made) → Numbered f landing lo hi xs ns
+  pub numbered-ascending : (lo hi : ℕ) (xs : List EdgeArgument) (ns : List Made) → Numbered f landing lo hi xs ns
       → Ascending lo hi (loaded xs ns)
   numbered-ascending lo hi [] [] h = h
   numbered-ascending lo hi [] (_ ∷ _) h = absurd h
