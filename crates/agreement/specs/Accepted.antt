@@ -9,7 +9,7 @@ use lib.ListN.{length, getD}
 use lib.Dec.{T, T-not, ltb, ltb→lt, eqb, eqb→eq}
 use Rattle.rules.specs.Lists.{all, empty, concatMap, has}
 use Rattle.rules.specs.Tree.{Edge, Instruction, Item, instruction, Block, Function}
-use Rattle.rules.specs.Graph.{blockAt, sizeOf, instructionsOf, edgesOut, successors}
+use Rattle.rules.specs.Graph.{blockAt, sizeOf, instructionsOf, valuesPassed, edgesOut, successors}
 use Rattle.rules.specs.Refusals.{numberedFrom, allInstructions, allEdges, definitions, uses, numbersInFile, endsOnce, fit}
 use Rattle.rules.specs.Refusals.{safepointTerminator, onlyValues, soundEdge, soundInstruction, sound}
 use Rattle.rules.specs.declared.EdgeArgument.{EdgeArgument}
@@ -140,6 +140,15 @@ module _ (f : Function) (accepted : Accepted f) where
       (and-left (all below (definitions f ++ uses f)) (all (λ e. ltb (e .target) (length (f .blocks))) (allEdges f)) (accepted .in-file))
       (Memᴰ·append-left (uses f) m))
 
+  -- and so is one that is used
+  use-in-file : (v : ℕ) → v ∈ uses f → v < length (f .values)
+  use-in-file v m =
+      let below : ℕ → Bool = λ w. ltb w (length (f .values)) in
+      ltb→lt v (length (f .values))
+      (all→∈ below (definitions f ++ uses f)
+      (and-left (all below (definitions f ++ uses f)) (all (λ e. ltb (e .target) (length (f .blocks))) (allEdges f)) (accepted .in-file))
+      (Memᴰ·append-right (definitions f) m))
+
   -- INSTRUCTIONS of a block of the file
   module _ (b : ℕ) (inside : b < length (f .blocks)) where
     pub instruction-sound : (i : Instruction) → i ∈ instructionsOf (blockAt f b) → T (soundInstruction f i)
@@ -197,3 +206,15 @@ module _ (f : Function) (accepted : Accepted f) where
     result-in-file i m v k =
         definition-in-file v (Memᴰ·append-right (concatMap (λ b. b .parameters) (f .blocks))
         (∈-concatMap (λ (i : Instruction). i .results) (∈-concatMap instructionsOf (block-in-file b inside) m) k))
+
+    operand-in-file : (i : Instruction) → i ∈ instructionsOf (blockAt f b) → (v : ℕ) → v ∈ (i .arguments ++ (valuesPassed i ++ i .contexts))
+        → v < length (f .values)
+    operand-in-file i m v k =
+        use-in-file v
+        (∈-concatMap (λ (i : Instruction). i .arguments ++ (valuesPassed i ++ i .contexts)) (∈-concatMap instructionsOf (block-in-file b inside) m) k)
+
+    pub argument-in-file : (i : Instruction) → i ∈ instructionsOf (blockAt f b) → (v : ℕ) → v ∈ i .arguments → v < length (f .values)
+    argument-in-file i m v k = operand-in-file i m v (Memᴰ·append-left (valuesPassed i ++ i .contexts) k)
+
+    pub passed-in-file : (i : Instruction) → i ∈ instructionsOf (blockAt f b) → (v : ℕ) → v ∈ valuesPassed i → v < length (f .values)
+    passed-in-file i m v k = operand-in-file i m v (Memᴰ·append-right (i .arguments) (Memᴰ·append-left (i .contexts) k))

@@ -10,3 +10,4 @@ pub mod Spilled
 pub mod Keeping
 pub mod Changing
 pub mod Operands
+pub mod Points
