@@ -11,3 +11,4 @@ pub mod Keeping
 pub mod Changing
 pub mod Operands
 pub mod Points
+pub mod Steps

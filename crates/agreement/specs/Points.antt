@@ -55,10 +55,6 @@ module _ (f : Function) (pointer : ℕ) where
     pub path : PathTo f t passed
     pub point : Point (concatMap (definedIn f) passed) (process f .ins t) γ
 
-  -- the values defined on a path into block t, past these of its instructions
-  abbrev pub definedBefore : List ℕ → ℕ → List Instruction → List ℕ
-  definedBefore passed t earlier = concatMap (definedIn f) passed ++ (blockAt f t .parameters ++ resultsOf earlier)
-
   -- a point holds of a ghost that knows as much of slots and of the file's values
   pub point-kept : {defined : List ℕ} {live : NumberSet} {γ γ′ : Ghost} → ((v : ℕ) → T (live v) → T (isMarked f v))
       → ((x : ℕ) → x < length (f .values) → γ′ .words x ≡ γ .words x) → γ′ .slots ≡ γ .slots
@@ -69,6 +65,12 @@ module _ (f : Function) (pointer : ℕ) where
         unspilled = λ v l u. words v (marked-in-file f v (marked v l)) ∙ p .unspilled v l u;
         held = λ v l s. ap (λ (h : ℕ → _). h (slotNumber f pointer v)) slots ∙ p .held v l s;
       }
+
+-- DEFINED ON THE WAY
+module _ (f : Function) where
+  -- the values defined on a path into block t, past these of its instructions
+  abbrev pub definedBefore : List ℕ → ℕ → List Instruction → List ℕ
+  definedBefore passed t earlier = concatMap (definedIn f) passed ++ (blockAt f t .parameters ++ resultsOf earlier)
 
   -- a value that is defined past one more instruction was defined before it, or by it
   pub defined-past : (passed : List ℕ) (t : ℕ) (earlier : List Instruction) (i : Instruction) (v : ℕ)
