@@ -12,3 +12,4 @@ pub mod Changing
 pub mod Operands
 pub mod Points
 pub mod Steps
+pub mod Edges
