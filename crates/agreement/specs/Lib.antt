@@ -13,3 +13,4 @@ pub mod Operands
 pub mod Points
 pub mod Steps
 pub mod Edges
+pub mod LiveDefined
