@@ -14,3 +14,4 @@ pub mod Points
 pub mod Steps
 pub mod Edges
 pub mod LiveDefined
+pub mod Following

@@ -1,0 +1,221 @@
+-- Rewriting makes related trees. Every reachable block of the rewritten function, entered where everything live is known, reads
+-- what it may and leaves so into its successors; so the function is related to the file.
+use Prim.Native.Nat.{ℕ, _<_}
+use mathlib.Core.Path.{_≡_, refl, sym, ap, subst, _∙_}
+use mathlib.Core.Logic.{⊎-elim}
+use mathlib.Core.Bool.{not}
+use mathlib.Core.Option.{Option}
+use mathlib.Core.List.{List, [], _∷_, _++_, map, append-assoc, List·Memᴰ·append-cases}
+use lib.ListN.{length}
+use lib.Dec.{T, T-not}
+use Rattle.rules.specs.Lists.{has, orElse, zipWith, concatMap, concatZip, NumberSet, removing}
+use Rattle.rules.specs.Tree.{Instruction, Item, instruction, Block, Function}
+use Rattle.rules.specs.Graph.{blockAt, sizeOf, isMarked, instructionsOf, reachable}
+use Rattle.rules.specs.Liveness.{before, beforeAll, through, process, listsAmong, isSpilled, listedInstructions}
+use Rattle.rules.specs.Plan.{Made, InstructionPlan, BlockPlan, planned}
+use Rattle.rules.specs.Rewriting.{storeItems, instructionItems, slotNumber, rewritten}
+use Rattle.rules.specs.Demand3.{PathTo, start, resultsOf, definedIn, Dominated}
+use Rattle.lists.specs.Tests.{and-intro}
+use Rattle.lists.specs.Members.{_∈_, here, there, not-∈-nil, ∈→has}
+use Rattle.walks.specs.Reachable.{path→reachable}
+use Rattle.walks.specs.InFile.{path-in-file}
+use Rattle.fixpoint.specs.Rule.{marked-in-file}
+use Rattle.fixpoint.specs.Answer.{process-through-outs}
+use Rattle.simulation.specs.Ghost.{word, Ghost, nothingKnown, moving, defining}
+use Rattle.simulation.specs.Related.{Each, Paired, numbers, IsBlock, Related}
+use Rattle.agreement.specs.Entries.{pastAll, each-paired, Follows, follows-behind, Kept, entries-related}
+use Rattle.agreement.specs.Plans.{InstructionNumbered, BlockNumbered}
+use Rattle.agreement.specs.Items.{loadsOf, items-in-order}
+use Rattle.agreement.specs.Accepted.{Accepted, is-block-at, block-in-file, below-number, parameter-in-file, result-in-file}
+use Rattle.agreement.specs.Layout.{mainBlock}
+use Rattle.agreement.specs.Rewritten.{LaidBy, blocks-numbered, rewritten-laid, rewritten-first, found-main}
+use Rattle.agreement.specs.Spilled.{live-marked, lists-reachable}
+use Rattle.agreement.specs.LiveDefined.{none-live-at-start}
+use Rattle.agreement.specs.Changing.{Stored, LeftStored, stores-left, defining-new, defining-own, defining-slot}
+use Rattle.agreement.specs.Points.{SlotsApart, Point, Entered, definedBefore, after-behind}
+use Rattle.agreement.specs.Steps.{Spot, liveAfter, listHere, spot-stands, loadsHere, rewrittenHere, loadedGhost, steppedGhost}
+use Rattle.agreement.specs.Steps.{loads-read-here, arguments-here, behind-unmarked, behind-unspilled, behind-held}
+use Rattle.agreement.specs.Edges.{edges-here}
+
+module _ (f : Function) (pointer : ℕ) (accepted : Accepted f) (dominated : Dominated f) (apart : SlotsApart f pointer) where
+  -- the results of an instruction are stored
+  abbrev ResultsStored : Instruction × Option (List ℕ) → InstructionPlan → Type 0
+  ResultsStored x m = Each (Stored f) (x .0 .results) (m .results)
+
+  -- BEHIND ONE INSTRUCTION and its stores
+  module _ (spot : Spot f) (n : InstructionPlan)
+      (numbered : InstructionNumbered f (spot .at, listHere f spot) n) (stored : ResultsStored (spot .at, listHere f spot) n) (γ : Ghost)
+      (point : Point f pointer (definedBefore f (spot .passed) (spot .block) (spot .earlier)) (before f (spot .at) (liveAfter f spot)) γ) where
+    abbrev γ₂ : Ghost
+    γ₂ = steppedGhost f pointer spot n γ
+
+    abbrev storesHere : List Item
+    storesHere = concatZip (storeItems (sizeOf f) (slotNumber f pointer)) (spot .at .results) (n .results)
+
+    results-left : LeftStored f (sizeOf f) (slotNumber f pointer) (liveAfter f spot) (spot .at .results) (n .results) γ₂
+    results-left =
+        let inside = path-in-file f (accepted .in-file) (accepted .some-block) (spot .path) in
+        let moved = moving (isMarked f) (rewrittenHere f pointer spot n γ) (loadedGhost f pointer spot n γ) in
+        stores-left f (sizeOf f) (slotNumber f pointer) (liveAfter f spot) (spot .at .results) (n .results) γ₂ (numbered .results) stored
+        (λ v m. (result-in-file f accepted (spot .block) inside (spot .at) (spot-stands f spot) v m, defining-new (spot .at .results) moved v (∈→has m)))
+        (apart .results-apart (spot .block) (path→reachable f (spot .path)) (spot .earlier) (spot .at) (spot .later) (spot .split))
+        (λ u l t h.
+        behind-held f pointer accepted dominated spot n numbered γ point u (after-behind f (spot .at) (liveAfter f spot) u l) t h)
+
+    point-behind : Point f pointer (definedBefore f (spot .passed) (spot .block) (spot .earlier ++ (spot .at ∷ []))) (liveAfter f spot)
+        (pastAll storesHere γ₂)
+    point-behind =
+        record {
+          unmarked = λ v l m t. results-left .1 v l ∙ behind-unmarked f pointer accepted dominated spot n numbered γ point v l m t;
+          unspilled = λ v l t.
+              results-left .1 v (marked-in-file f v (live-marked f (spot .block) (spot .later) v l))
+              ∙ behind-unspilled f pointer accepted dominated spot n numbered γ point v (after-behind f (spot .at) (liveAfter f spot) v l) t;
+          held = results-left .2;
+        }
+
+  -- A BLOCK'S INSTRUCTIONS
+  module _ (t : ℕ) (passed : List ℕ) (path : PathTo f t passed) (plan : BlockPlan) (by : LaidBy f pointer accepted t plan) where
+    -- instructions with their lists
+    abbrev listedFrom : List Instruction → List (Instruction × Option (List ℕ))
+    listedFrom is = zipWith (λ i l. (i, l)) is (listsAmong f is (process f .outs t))
+
+    instructions-follow : (earlier is : List Instruction) → instructionsOf (blockAt f t) ≡ earlier ++ is
+        → (ns : List InstructionPlan) → Each (InstructionNumbered f) (listedFrom is) ns → Each ResultsStored (listedFrom is) ns
+        → ((x : Instruction × Option (List ℕ)) (m : InstructionPlan) → Paired x m (listedFrom is) ns
+        → Paired x m (listedInstructions f t) (plan .instructions))
+        → (γ : Ghost) → Point f pointer (definedBefore f passed t earlier) (beforeAll f is (process f .outs t)) γ
+        → Follows f (rewritten f pointer) (Entered f pointer) (map instruction is)
+        (concatZip (instructionItems (sizeOf f) (slotNumber f pointer)) (listedFrom is) ns) γ
+    instructions-follow earlier [] split ns numbered stored placed γ point = tt
+    instructions-follow earlier (i ∷ later) split [] numbered stored placed γ point = absurd numbered
+    instructions-follow earlier (i ∷ later) split (n ∷ ns) numbered stored placed γ point =
+        let spot : Spot f =
+        record { block = t; passed = passed; path = path; earlier = earlier; at = i; later = later; split = split } in
+        let rest = concatZip (instructionItems (sizeOf f) (slotNumber f pointer)) (listedFrom later) ns in
+        let stores = storesHere spot n (numbered .0) (stored .0) γ point in
+        let j = rewrittenHere f pointer spot n γ in
+        let g = rewritten f pointer in
+        let is = instruction i ∷ map instruction later in
+        subst (λ js. Follows f g (Entered f pointer) is js γ)
+        (sym (items-in-order (sizeOf f) (slotNumber f pointer) (i, listHere f spot) n rest))
+        (follows-behind f g (Entered f pointer) is (loadsHere f pointer spot n γ) (instruction j ∷ (stores ++ rest)) γ
+        (loads-read-here f pointer accepted dominated spot n (numbered .0) γ point) (
+          (
+            arguments-here f pointer accepted dominated spot n (numbered .0) γ point,
+            edges-here f pointer accepted dominated spot n (numbered .0) γ point plan by (placed (i, listHere f spot) n (here refl)),
+          ),
+          follows-behind f g (Entered f pointer) (map instruction later) stores rest (steppedGhost f pointer spot n γ)
+              (results-left spot n (numbered .0) (stored .0) γ point .0)
+              (instructions-follow (earlier ++ (i ∷ [])) later (split ∙ sym (append-assoc earlier (i ∷ []) later)) ns (numbered .1) (stored .1)
+              (λ x m pair. placed x m (there pair)) (pastAll stores (steppedGhost f pointer spot n γ))
+              (point-behind spot n (numbered .0) (stored .0) γ point)),
+        ))
+
+  -- A BLOCK, entered
+  module _ (t : ℕ) (γ : Ghost) (entered : Entered f pointer t γ) (plan : BlockPlan) (by : LaidBy f pointer accepted t plan) where
+    abbrev here-block : Block
+    here-block = blockAt f t
+
+    abbrev live : NumberSet
+    live = beforeAll f (instructionsOf here-block) (process f .outs t)
+
+    reached : t ∈ reachable f
+    reached = path→reachable f (entered .path)
+
+    -- what is live behind the parameters and none of them is live where the block is entered
+    live-entering : (v : ℕ) → T (live v) → T (not (has v (here-block .parameters))) → T (process f .ins t v)
+    live-entering v l h =
+        subst (λ (s : NumberSet). T (s v)) (process-through-outs f reached) (and-intro (not (has v (here-block .parameters))) (live v) h l)
+
+    abbrev γ₀ : Ghost
+    γ₀ = defining (here-block .parameters) γ
+
+    numbered-here : BlockNumbered f t plan
+    numbered-here = each-paired (BlockNumbered f) (reachable f) (planned f pointer .0) (blocks-numbered f pointer accepted) t plan (by .0)
+
+    parameters-left : LeftStored f (sizeOf f) (slotNumber f pointer) live (here-block .parameters) (plan .parameters) γ₀
+    parameters-left =
+        let inside = path-in-file f (accepted .in-file) (accepted .some-block) (entered .path) in
+        stores-left f (sizeOf f) (slotNumber f pointer) live (here-block .parameters) (plan .parameters) γ₀ (numbered-here .parameters)
+        (apart .parameters-stored t plan (by .0))
+        (λ v m. (parameter-in-file f accepted t inside v m, defining-new (here-block .parameters) γ v (∈→has m)))
+        (apart .parameters-apart t reached)
+        (λ u l s h. defining-slot (here-block .parameters) γ (slotNumber f pointer u) u (entered .point .held u (live-entering u l h) s) h)
+
+    abbrev storesFirst : List Item
+    storesFirst = concatZip (storeItems (sizeOf f) (slotNumber f pointer)) (here-block .parameters) (plan .parameters)
+
+    first-point : Point f pointer (definedBefore f (entered .passed) t []) live (pastAll storesFirst γ₀)
+    first-point =
+        record {
+          unmarked = λ v l m u.
+              parameters-left .1 v l
+              ∙ defining-own (here-block .parameters) γ v
+              (λ h.
+              entered .point .unmarked v l
+              (⊎-elim (λ k. k)
+              (λ k.
+              ⊎-elim (λ p. absurd (T-not (has v (here-block .parameters)) h (∈→has p))) (λ z. absurd (not-∈-nil z))
+              (List·Memᴰ·append-cases (here-block .parameters) k))
+              (List·Memᴰ·append-cases (concatMap (definedIn f) (entered .passed)) m)) u);
+          unspilled = λ v l u.
+              parameters-left .1 v (marked-in-file f v (live-marked f t (instructionsOf here-block) v l))
+              ∙ defining-own (here-block .parameters) γ v (λ h. entered .point .unspilled v (live-entering v l h) u);
+          held = parameters-left .2;
+        }
+
+    listed-here : listedInstructions f t ≡ listedFrom t (entered .passed) (entered .path) plan by (instructionsOf here-block)
+    listed-here = ap (zipWith (λ i l. (i, l)) (instructionsOf here-block)) (lists-reachable f t reached)
+
+    block-follows : Follows f (rewritten f pointer) (Entered f pointer) (map instruction (instructionsOf here-block))
+        (mainBlock f pointer here-block (listedInstructions f t) plan .items) γ₀
+    block-follows =
+        let is = instructionsOf here-block in
+        let ns = plan .instructions in
+        let listed = listedFrom t (entered .passed) (entered .path) plan by is in
+        follows-behind f (rewritten f pointer) (Entered f pointer) (map instruction is) storesFirst
+        (concatZip (instructionItems (sizeOf f) (slotNumber f pointer)) (listedInstructions f t) ns) γ₀ (parameters-left .0)
+        (subst
+        (λ xs.
+        Follows f (rewritten f pointer) (Entered f pointer) (map instruction is)
+        (concatZip (instructionItems (sizeOf f) (slotNumber f pointer)) xs ns) (pastAll storesFirst γ₀))
+        (sym listed-here)
+        (instructions-follow t (entered .passed) (entered .path) plan by [] is refl ns
+        (subst (λ xs. Each (InstructionNumbered f) xs ns) listed-here (numbered-here .instructions))
+        (subst (λ xs. Each ResultsStored xs ns) listed-here (apart .results-stored t plan (by .0)))
+        (λ x m pair. subst (λ xs. Paired x m xs ns) (sym listed-here) pair) (pastAll storesFirst γ₀) first-point))
+
+  -- THE WHOLE
+  enters : (t : ℕ) (γ : Ghost) → Entered f pointer t γ → (b b′ : Block) → IsBlock f t b → IsBlock (rewritten f pointer) t b′
+      → Follows f (rewritten f pointer) (Entered f pointer) (b .items) (b′ .items) (defining (b′ .parameters) γ)
+  enters t γ entered b b′ k k′ =
+      let inside = path-in-file f (accepted .in-file) (accepted .some-block) (entered .path) in
+      let main = found-main f pointer accepted t (path→reachable f (entered .path)) b′ k′ in
+      let items : map instruction (instructionsOf (blockAt f t)) ≡ b .items =
+      sym (accepted .plain (blockAt f t) (block-in-file f accepted t inside)) ∙ ap (λ (c : Block). c .items) (sym (is-block-at f accepted t b k)) in
+      subst (λ (c : Block). Follows f (rewritten f pointer) (Entered f pointer) (b .items) (c .items) (defining (c .parameters) γ)) (sym (main .2))
+      (subst
+      (λ is.
+      Follows f (rewritten f pointer) (Entered f pointer) is (mainBlock f pointer (blockAt f t) (listedInstructions f t) (main .0) .items)
+      (defining (blockAt f t .parameters) γ))
+      items (block-follows t γ entered (main .0) (main .1)))
+
+  -- nothing is live where block 0 is entered first
+  starts : Entered f pointer 0 nothingKnown
+  starts =
+      record {
+        passed = [];
+        path = start;
+        point =
+            record {
+              unmarked = λ v l m u. absurd (not-∈-nil m);
+              unspilled = λ v l u. absurd (none-live-at-start f dominated v l);
+              held = λ v l s. absurd (none-live-at-start f dominated v l);
+            };
+      }
+
+  -- An accepted file in which every use is dominated, and its rewritten function, are related.
+  pub rewriting-related : Related f (rewritten f pointer)
+  rewriting-related =
+      entries-related f (rewritten f pointer) (Entered f pointer) (record { starts = starts; enters = enters })
+      (rewritten-laid f pointer accepted) (below-number f accepted 0 (accepted .some-block)) (rewritten-first f pointer accepted)
