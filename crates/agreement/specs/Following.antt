@@ -33,9 +33,11 @@ use Rattle.agreement.specs.Spilled.{live-marked, lists-reachable}
 use Rattle.agreement.specs.LiveDefined.{none-live-at-start}
 use Rattle.agreement.specs.Changing.{Stored, LeftStored, stores-left, defining-new, defining-own, defining-slot}
 use Rattle.agreement.specs.Points.{SlotsApart, Point, Entered, definedBefore, after-behind}
-use Rattle.agreement.specs.Steps.{Spot, liveAfter, listHere, spot-stands, loadsHere, rewrittenHere, loadedGhost, steppedGhost}
-use Rattle.agreement.specs.Steps.{loads-read-here, arguments-here, behind-unmarked, behind-unspilled, behind-held}
-use Rattle.agreement.specs.Edges.{edges-here}
+use Rattle.agreement.specs.Spots.{Spot, liveAfter, liveBefore, listHere, definedHere, definedBehind, spot-stands, spot-reachable}
+use Rattle.agreement.specs.Spots.{spot-inside, Behind}
+use Rattle.agreement.specs.Steps.{loadsHere, rewrittenHere, loadedGhost, steppedGhost, loads-read-here, arguments-here, behind-here}
+use Rattle.agreement.specs.Steps.{direct-loaded}
+use Rattle.agreement.specs.Edges.{edges-go}
 
 module _ (f : Function) (pointer : ℕ) (accepted : Accepted f) (dominated : Dominated f) (apart : SlotsApart f pointer) where
   -- the results of an instruction are stored
@@ -45,31 +47,34 @@ module _ (f : Function) (pointer : ℕ) (accepted : Accepted f) (dominated : Dom
   -- BEHIND ONE INSTRUCTION and its stores
   module _ (spot : Spot f) (n : InstructionPlan)
       (numbered : InstructionNumbered f (spot .at, listHere f spot) n) (stored : ResultsStored (spot .at, listHere f spot) n) (γ : Ghost)
-      (point : Point f pointer (definedBefore f (spot .passed) (spot .block) (spot .earlier)) (before f (spot .at) (liveAfter f spot)) γ) where
+      (point : Point f pointer (definedHere f spot) (liveBefore f spot) γ) where
     abbrev γ₂ : Ghost
     γ₂ = steppedGhost f pointer spot n γ
+
+    behind : Behind f pointer spot γ₂
+    behind = behind-here f pointer accepted dominated spot n numbered γ point
 
     abbrev storesHere : List Item
     storesHere = concatZip (storeItems (sizeOf f) (slotNumber f pointer)) (spot .at .results) (n .results)
 
     results-left : LeftStored f (sizeOf f) (slotNumber f pointer) (liveAfter f spot) (spot .at .results) (n .results) γ₂
     results-left =
-        let inside = path-in-file f (accepted .in-file) (accepted .some-block) (spot .path) in
         let moved = moving (isMarked f) (rewrittenHere f pointer spot n γ) (loadedGhost f pointer spot n γ) in
         stores-left f (sizeOf f) (slotNumber f pointer) (liveAfter f spot) (spot .at .results) (n .results) γ₂ (numbered .results) stored
-        (λ v m. (result-in-file f accepted (spot .block) inside (spot .at) (spot-stands f spot) v m, defining-new (spot .at .results) moved v (∈→has m)))
-        (apart .results-apart (spot .block) (path→reachable f (spot .path)) (spot .earlier) (spot .at) (spot .later) (spot .split))
-        (λ u l t h.
-        behind-held f pointer accepted dominated spot n numbered γ point u (after-behind f (spot .at) (liveAfter f spot) u l) t h)
+        (λ v m. (
+          result-in-file f accepted (spot .block) (spot-inside f spot accepted) (spot .at) (spot-stands f spot) v m,
+          defining-new (spot .at .results) moved v (∈→has m),
+        ))
+        (apart .results-apart (spot .block) (spot-reachable f spot) (spot .earlier) (spot .at) (spot .later) (spot .split))
+        (λ u l t h. behind .held u (after-behind f (spot .at) (liveAfter f spot) u l) t h)
 
-    point-behind : Point f pointer (definedBefore f (spot .passed) (spot .block) (spot .earlier ++ (spot .at ∷ []))) (liveAfter f spot)
-        (pastAll storesHere γ₂)
+    point-behind : Point f pointer (definedBehind f spot) (liveAfter f spot) (pastAll storesHere γ₂)
     point-behind =
         record {
-          unmarked = λ v l m t. results-left .1 v l ∙ behind-unmarked f pointer accepted dominated spot n numbered γ point v l m t;
+          unmarked = λ v l m t. results-left .1 v l ∙ behind .unmarked v l m t;
           unspilled = λ v l t.
               results-left .1 v (marked-in-file f v (live-marked f (spot .block) (spot .later) v l))
-              ∙ behind-unspilled f pointer accepted dominated spot n numbered γ point v (after-behind f (spot .at) (liveAfter f spot) v l) t;
+              ∙ behind .unspilled v (after-behind f (spot .at) (liveAfter f spot) v l) t;
           held = results-left .2;
         }
 
@@ -102,7 +107,9 @@ module _ (f : Function) (pointer : ℕ) (accepted : Accepted f) (dominated : Dom
         (loads-read-here f pointer accepted dominated spot n (numbered .0) γ point) (
           (
             arguments-here f pointer accepted dominated spot n (numbered .0) γ point,
-            edges-here f pointer accepted dominated spot n (numbered .0) γ point plan by (placed (i, listHere f spot) n (here refl)),
+            edges-go f pointer accepted dominated spot (steppedGhost f pointer spot n γ) (behind spot n (numbered .0) (stored .0) γ point) n
+                (numbered .0 .edges) (direct-loaded f pointer accepted dominated spot n (numbered .0) γ point) plan by
+                (placed (i, listHere f spot) n (here refl)),
           ),
           follows-behind f g (Entered f pointer) (map instruction later) stores rest (steppedGhost f pointer spot n γ)
               (results-left spot n (numbered .0) (stored .0) γ point .0)

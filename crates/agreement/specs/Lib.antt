@@ -11,6 +11,7 @@ pub mod Keeping
 pub mod Changing
 pub mod Operands
 pub mod Points
+pub mod Spots
 pub mod Steps
 pub mod Edges
 pub mod LiveDefined
