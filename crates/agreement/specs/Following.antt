@@ -30,7 +30,6 @@ use Rattle.agreement.specs.Accepted.{Accepted, is-block-at, block-in-fil
 use Rattle.agreement.specs.Layout.{mainBlock}
 use Rattle.agreement.specs.Rewritten.{LaidBy, blocks-numbered, rewritten-laid, rewritten-first, found-main}
 use Rattle.agreement.specs.Spilled.{live-marked, lists-reachable}
-use Rattle.agreement.specs.LiveDefined.{none-live-at-start}
 use Rattle.agreement.specs.Changing.{Stored, LeftStored, stores-left, defining-new, defining-own, defining-slot}
 use Rattle.agreement.specs.Points.{SlotsApart, Point, Entered, definedBefore, after-behind}
 use Rattle.agreement.specs.Spots.{Spot, liveAfter, liveBefore, listHere, definedHere, definedBehind, spot-stands, spot-reachable}
@@ -38,6 +37,7 @@ use Rattle.agreement.specs.Spots.{spot-inside, Behind}
 use Rattle.agreement.specs.Steps.{loadsHere, rewrittenHere, loadedGhost, steppedGhost, loads-read-here, arguments-here, behind-here}
 use Rattle.agreement.specs.Steps.{direct-loaded}
 use Rattle.agreement.specs.Edges.{edges-go}
+use Rattle.agreement.specs.Entering.{liveFirst, entered-reachable, entered-inside, entering-unmarked, entering-unspilled, entering-held, starts}
 
 module _ (f : Function) (pointer : ℕ) (accepted : Accepted f) (dominated : Dominated f) (apart : SlotsApart f pointer) where
   -- the results of an instruction are stored
@@ -124,15 +124,7 @@ module _ (f : Function) (pointer : ℕ) (accepted : Accepted f) (dominated : Dom
     here-block = blockAt f t
 
     abbrev live : NumberSet
-    live = beforeAll f (instructionsOf here-block) (process f .outs t)
-
-    reached : t ∈ reachable f
-    reached = path→reachable f (entered .path)
-
-    -- what is live behind the parameters and none of them is live where the block is entered
-    live-entering : (v : ℕ) → T (live v) → T (not (has v (here-block .parameters))) → T (process f .ins t v)
-    live-entering v l h =
-        subst (λ (s : NumberSet). T (s v)) (process-through-outs f reached) (and-intro (not (has v (here-block .parameters))) (live v) h l)
+    live = liveFirst f t
 
     abbrev γ₀ : Ghost
     γ₀ = defining (here-block .parameters) γ
@@ -142,12 +134,11 @@ module _ (f : Function) (pointer : ℕ) (accepted : Accepted f) (dominated : Dom
 
     parameters-left : LeftStored f (sizeOf f) (slotNumber f pointer) live (here-block .parameters) (plan .parameters) γ₀
     parameters-left =
-        let inside = path-in-file f (accepted .in-file) (accepted .some-block) (entered .path) in
+        let inside = entered-inside f pointer t γ entered accepted in
         stores-left f (sizeOf f) (slotNumber f pointer) live (here-block .parameters) (plan .parameters) γ₀ (numbered-here .parameters)
         (apart .parameters-stored t plan (by .0))
         (λ v m. (parameter-in-file f accepted t inside v m, defining-new (here-block .parameters) γ v (∈→has m)))
-        (apart .parameters-apart t reached)
-        (λ u l s h. defining-slot (here-block .parameters) γ (slotNumber f pointer u) u (entered .point .held u (live-entering u l h) s) h)
+        (apart .parameters-apart t (entered-reachable f pointer t γ entered)) (entering-held f pointer t γ entered)
 
     abbrev storesFirst : List Item
     storesFirst = concatZip (storeItems (sizeOf f) (slotNumber f pointer)) (here-block .parameters) (plan .parameters)
@@ -155,24 +146,15 @@ module _ (f : Function) (pointer : ℕ) (accepted : Accepted f) (dominated : Dom
     first-point : Point f pointer (definedBefore f (entered .passed) t []) live (pastAll storesFirst γ₀)
     first-point =
         record {
-          unmarked = λ v l m u.
-              parameters-left .1 v l
-              ∙ defining-own (here-block .parameters) γ v
-              (λ h.
-              entered .point .unmarked v l
-              (⊎-elim (λ k. k)
-              (λ k.
-              ⊎-elim (λ p. absurd (T-not (has v (here-block .parameters)) h (∈→has p))) (λ z. absurd (not-∈-nil z))
-              (List·Memᴰ·append-cases (here-block .parameters) k))
-              (List·Memᴰ·append-cases (concatMap (definedIn f) (entered .passed)) m)) u);
+          unmarked = λ v l m u. parameters-left .1 v l ∙ entering-unmarked f pointer t γ entered v l m u;
           unspilled = λ v l u.
               parameters-left .1 v (marked-in-file f v (live-marked f t (instructionsOf here-block) v l))
-              ∙ defining-own (here-block .parameters) γ v (λ h. entered .point .unspilled v (live-entering v l h) u);
+              ∙ entering-unspilled f pointer t γ entered v l u;
           held = parameters-left .2;
         }
 
     listed-here : listedInstructions f t ≡ listedFrom t (entered .passed) (entered .path) plan by (instructionsOf here-block)
-    listed-here = ap (zipWith (λ i l. (i, l)) (instructionsOf here-block)) (lists-reachable f t reached)
+    listed-here = ap (zipWith (λ i l. (i, l)) (instructionsOf here-block)) (lists-reachable f t (entered-reachable f pointer t γ entered))
 
     block-follows : Follows f (rewritten f pointer) (Entered f pointer) (map instruction (instructionsOf here-block))
         (mainBlock f pointer here-block (listedInstructions f t) plan .items) γ₀
@@ -196,8 +178,8 @@ module _ (f : Function) (pointer : ℕ) (accepted : Accepted f) (dominated : Dom
   enters : (t : ℕ) (γ : Ghost) → Entered f pointer t γ → (b b′ : Block) → IsBlock f t b → IsBlock (rewritten f pointer) t b′
       → Follows f (rewritten f pointer) (Entered f pointer) (b .items) (b′ .items) (defining (b′ .parameters) γ)
   enters t γ entered b b′ k k′ =
-      let inside = path-in-file f (accepted .in-file) (accepted .some-block) (entered .path) in
-      let main = found-main f pointer accepted t (path→reachable f (entered .path)) b′ k′ in
+      let inside = entered-inside f pointer t γ entered accepted in
+      let main = found-main f pointer accepted t (entered-reachable f pointer t γ entered) b′ k′ in
       let items : map instruction (instructionsOf (blockAt f t)) ≡ b .items =
       sym (accepted .plain (blockAt f t) (block-in-file f accepted t inside)) ∙ ap (λ (c : Block). c .items) (sym (is-block-at f accepted t b k)) in
       subst (λ (c : Block). Follows f (rewritten f pointer) (Entered f pointer) (b .items) (c .items) (defining (c .parameters) γ)) (sym (main .2))
@@ -207,22 +189,8 @@ module _ (f : Function) (pointer : ℕ) (accepted : Accepted f) (dominated : Dom
       (defining (blockAt f t .parameters) γ))
       items (block-follows t γ entered (main .0) (main .1)))
 
-  -- nothing is live where block 0 is entered first
-  starts : Entered f pointer 0 nothingKnown
-  starts =
-      record {
-        passed = [];
-        path = start;
-        point =
-            record {
-              unmarked = λ v l m u. absurd (not-∈-nil m);
-              unspilled = λ v l u. absurd (none-live-at-start f dominated v l);
-              held = λ v l s. absurd (none-live-at-start f dominated v l);
-            };
-      }
-
   -- An accepted file in which every use is dominated, and its rewritten function, are related.
   pub rewriting-related : Related f (rewritten f pointer)
   rewriting-related =
-      entries-related f (rewritten f pointer) (Entered f pointer) (record { starts = starts; enters = enters })
+      entries-related f (rewritten f pointer) (Entered f pointer) (record { starts = starts f pointer dominated; enters = enters })
       (rewritten-laid f pointer accepted) (below-number f accepted 0 (accepted .some-block)) (rewritten-first f pointer accepted)

@@ -15,4 +15,6 @@ pub mod Spots
 pub mod Steps
 pub mod Edges
 pub mod LiveDefined
+pub mod Entering
 pub mod Following
+pub mod Unchanged
