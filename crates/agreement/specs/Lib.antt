@@ -18,3 +18,4 @@ pub mod LiveDefined
 pub mod Entering
 pub mod Following
 pub mod Unchanged
+pub mod Verdicts
