@@ -19,3 +19,5 @@ pub mod Entering
 pub mod Following
 pub mod Unchanged
 pub mod Verdicts
+pub mod FinalFile
+pub mod Demand3
