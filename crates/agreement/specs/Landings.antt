@@ -19,7 +19,7 @@ use Rattle.rules.specs.Rewriting.{landingOf, landings}
 use Rattle.rules.specs.declared.EdgeArgument.{EdgeArgument}
 use Rattle.rules.specs.declared.EdgeArgument.the-variants as passes
 use Rattle.lists.specs.Members.{_∈_, not-∈-nil}
-use Rattle.agreement.specs.Numbers.{landedSteps}
+use Rattle.agreement.specs.Growing.{nothing-kept, uses-cost, definitions-cost, slots-cost, landed-costs, edge-costs}
 
 -- landings with numbers from lo on, below hi, no two with one number
 pub record Between (lo hi : ℕ) (ls : List Block) : Type 0 where
@@ -59,15 +59,7 @@ between-wider ls low high b =
     }
 
 -- STEPS
--- a step takes no block's number back
-abbrev Steady : {A : Type 0} → Planning A → Type 0
-Steady m = (p : Plan) → p .blocks ≤ m p .1 .blocks
-
 module _ {A B : Type 0} (k : A → Planning B) where
-  each-steady : ((x : A) → Steady (k x)) → (xs : List A) → Steady (forEach k xs)
-  each-steady h [] p = omega arith
-  each-steady h (x ∷ xs) p = omega (arith, h x p, each-steady h xs (k x p .1))
-
   module _ (ls : A → B → List Block) (h : (x : A) (p : Plan) → Between (p .blocks) (k x p .1 .blocks) (ls x (k x p .0))) where
     each-between : (xs : List A) (p : Plan)
         → Between (p .blocks) (forEach k xs p .1 .blocks) (concatZip ls xs (forEach k xs p .0))
@@ -88,41 +80,23 @@ module _ {A B : Type 0} (k : A → Planning B) where
         (λ l m. ⊎-elim inr inl (List·Memᴰ·append-cases (ls x (one .0)) m)) (each-between-backward xs p) (h x (rest .1))
 
 module _ (f : Function) (pointer : ℕ) where
-  use-steady : (v : ℕ) → Steady (planUse f pointer v)
-  use-steady v p = go (isSpilled f v)
-    where
-      go : (c : Bool) → p .blocks ≤ cond c (planLoad f pointer v) (pure none) p .1 .blocks
-      go true = omega arith
-      go false = omega arith
+  -- no step takes a block's number back
+  abbrev Steady : {A : Type 0} → Planning A → Type 0
+  Steady m = (p : Plan) → p .blocks ≤ m p .1 .blocks
 
-  edge-use-steady : (x : EdgeArgument) → Steady (planEdgeUse f pointer x)
-  edge-use-steady (passes.Value v) = use-steady v
-  edge-use-steady (passes.Returned k) = λ p. omega arith
-  edge-use-steady (passes.Exception k) = λ p. omega arith
+  uses-steady : (vs : List ℕ) → Steady (forEach (planUse f pointer) vs)
+  uses-steady vs p = uses-cost f pointer _ _ _ (nothing-kept f pointer) vs p .blocks
 
-  definition-steady : (v : ℕ) → Steady (planDefinition f pointer v)
-  definition-steady v p = go (isSpilled f v) (p .slots .slotOf v)
-    where
-      go : (c : Bool) (slot : Option ℕ) → p .blocks ≤ cond c (planStore f pointer v slot p) (none, p) .1 .blocks
-      go true none = omega arith
-      go true (some slot) = omega arith
-      go false slot = omega arith
+  definitions-steady : (vs : List ℕ) → Steady (forEach (planDefinition f pointer) vs)
+  definitions-steady vs p = definitions-cost f pointer _ _ _ (nothing-kept f pointer) vs p .blocks
 
   slots-steady : (vs : List ℕ) → Steady (forEach (planSlot f pointer) vs)
-  slots-steady = each-steady (planSlot f pointer) (λ v p. omega arith)
-
-  landed-steady : (xs : List EdgeArgument) (ps : List ℕ) → Steady (forEach (λ m. m) (landedSteps f pointer xs ps))
-  landed-steady [] ps p = omega arith
-  landed-steady (x ∷ xs) [] p = omega arith
-  landed-steady (passes.Value v ∷ xs) (t ∷ ps) p =
-      omega (arith, use-steady v p, landed-steady xs ps (planUse f pointer v p .1))
-  landed-steady (passes.Returned k ∷ xs) (t ∷ ps) p = landed-steady xs ps (planLanded f pointer (passes.Returned k) (sizeOf f t) p .1)
-  landed-steady (passes.Exception k ∷ xs) (t ∷ ps) p = landed-steady xs ps (planLanded f pointer (passes.Exception k) (sizeOf f t) p .1)
+  slots-steady vs p = slots-cost f pointer _ _ _ (nothing-kept f pointer) vs (λ _ _. tt) p .blocks
 
   module _ (size slot : ℕ → ℕ) where
     edge-between : (e : Edge) (p : Plan)
         → Between (p .blocks) (planEdge f pointer e p .1 .blocks) (landings size slot e (planEdge f pointer e p .0))
-    edge-between e p = none-between (each-steady (planEdgeUse f pointer) edge-use-steady (e .arguments) p)
+    edge-between e p = none-between (edge-costs f pointer _ _ _ (nothing-kept f pointer) e p .blocks)
 
     safepoint-edge-between : (e : Edge) (p : Plan)
         → Between (p .blocks) (planSafepointEdge f pointer e p .1 .blocks) (landings size slot e (planSafepointEdge f pointer e p .0))
@@ -137,7 +111,7 @@ module _ (f : Function) (pointer : ℕ) where
         landing-between : Between (p .blocks) (planLanding f pointer e p .1 .blocks) (landings size slot e (planLanding f pointer e p .0))
         landing-between =
             let l = landingOf size slot e (planLanding f pointer e p .0 .arguments) (p .blocks) in
-            let steady = landed-steady (e .arguments) (blockAt f (e .target) .parameters) begun in
+            let steady = landed-costs f pointer _ _ _ (nothing-kept f pointer) (e .arguments) (blockAt f (e .target) .parameters) (λ _ _. tt) begun .blocks in
             record {
               grows = omega (arith, steady);
               inside = λ k m.
@@ -164,17 +138,17 @@ module _ (f : Function) (pointer : ℕ) where
     instruction-between (i, none) p =
         let behind = forEach (planDefinition f pointer) (i .results) p .1 in
         let loaded = forEach (planUse f pointer) (i .arguments) behind .1 in
-        let before = each-steady (planDefinition f pointer) definition-steady (i .results) p in
-        let more = each-steady (planUse f pointer) use-steady (i .arguments) behind in
+        let before = definitions-steady (i .results) p in
+        let more = uses-steady (i .arguments) behind in
         between-wider (concatZip (landings size slot) (i .edges) (forEach (planEdge f pointer) (i .edges) loaded .0))
         (omega (arith, before, more)) (omega arith) (each-between (planEdge f pointer) (landings size slot) edge-between (i .edges) loaded)
     instruction-between (i, some list) p =
         let behind = forEach (planDefinition f pointer) (i .results) p .1 in
         let given = forEach (planSlot f pointer) list behind .1 in
         let led = forEach (planSafepointEdge f pointer) (i .edges) given in
-        let before = each-steady (planDefinition f pointer) definition-steady (i .results) p in
+        let before = definitions-steady (i .results) p in
         let more = slots-steady list behind in
-        let last = each-steady (planUse f pointer) use-steady (i .arguments) (led .1) in
+        let last = uses-steady (i .arguments) (led .1) in
         between-wider (concatZip (landings size slot) (i .edges) (led .0)) (omega (arith, before, more)) (omega (arith, last))
         (each-between (planSafepointEdge f pointer) (landings size slot) safepoint-edge-between (i .edges) given)
 
@@ -185,7 +159,7 @@ module _ (f : Function) (pointer : ℕ) where
         let given = forEach (planSlot f pointer) early p .1 in
         let walked = forEachBackward (planInstruction f pointer) (listedInstructions f b) given in
         let first = slots-steady early p in
-        let last = each-steady (planDefinition f pointer) definition-steady (blockAt f b .parameters) (walked .1) in
+        let last = definitions-steady (blockAt f b .parameters) (walked .1) in
         between-wider (concatZip instructionLandings (listedInstructions f b) (walked .0)) (omega (arith, first)) (omega (arith, last))
         (each-between-backward (planInstruction f pointer) instructionLandings instruction-between (listedInstructions f b) given)
 

@@ -1,5 +1,6 @@
 pub mod Entries
 pub mod Numbers
+pub mod Growing
 pub mod Plans
 pub mod Landings
 pub mod Items
