@@ -126,15 +126,15 @@ module _ (f : Function) where
     but-first : (v : ℕ) (vs : List ℕ) (u : ℕ) → T (not (has u vs)) → T (not (eqb u v)) → T (not (has u (v ∷ vs)))
     but-first v vs u h k = not-T (has u (v ∷ vs)) (λ t. or-elim (eqb u v) (has u vs) (T-not (eqb u v) k) (T-not (has u vs) h) t)
 
-    pub stores-left : (vs : List ℕ) (ns : List Made) (γ : Ghost) → Each (Defined f) vs ns → Each Stored vs ns
+    pub stores-left : (limit : ℕ) (vs : List ℕ) (ns : List Made) (γ : Ghost) → Each (Defined f limit) vs ns → Each Stored vs ns
         → ((v : ℕ) → v ∈ vs → (v < length (f .values)) × (γ .words v ≡ word v)) → OwnSlots vs → HeldBut vs γ → LeftStored vs ns γ
-    stores-left [] ns γ d s known own held = (tt, λ x h. refl, λ u l t. held u l t tt)
-    stores-left (v ∷ vs) [] γ d s known own held = absurd d
-    stores-left (v ∷ vs) (none ∷ ns) γ d s known own held =
-        stores-left vs ns γ (d .1) (s .1) (λ w m. known w (there m)) (λ w m. own w (there m))
+    stores-left limit [] ns γ d s known own held = (tt, λ x h. refl, λ u l t. held u l t tt)
+    stores-left limit (v ∷ vs) [] γ d s known own held = absurd d
+    stores-left limit (v ∷ vs) (none ∷ ns) γ d s known own held =
+        stores-left limit vs ns γ (d .1) (s .1) (λ w m. known w (there m)) (λ w m. own w (there m))
         (λ u l t n.
         held u l t (but-first v vs u n (not-T (eqb u v) (λ e. T-not (isSpilled f v) (s .0) (subst (λ w. T (isSpilled f w)) (eqb→eq u v e) t)))))
-    stores-left (v ∷ vs) (some a ∷ ns) γ d s known own held =
+    stores-left limit (v ∷ vs) (some a ∷ ns) γ d s known own held =
         let first = known v (here refl) in
         let new = d .0 .1 in
         let slots = store-slots v a γ new (first .0) (first .1) in
@@ -149,7 +149,7 @@ module _ (f : Function) where
         ∙ update-there (slot v) (word v) (γ .slots) (slot u) (ne→neqb (own v (here refl) (d .0 .0) u l t (neqb→ne u v e)))
         ∙ held u l t (but-first v vs u n e)) in
         let rest =
-        stores-left vs ns γ′ (d .1) (s .1)
+        stores-left limit vs ns γ′ (d .1) (s .1)
         (λ w m. let k = known w (there m) in (k .0, store-words v a γ new w (k .0) ∙ k .1)) (λ w m. own w (there m)) held′ in (
           (tt, tt, (tt, ((v, store-words v a γ new v (first .0) ∙ first .1), (slot v, setting-here a (address (slot v)) γ)), rest .0)),
           λ x h. rest .1 x h ∙ store-words v a γ new x h,

@@ -21,7 +21,7 @@ use Rattle.simulation.specs.Ghost.{Meaning, word, Ghost, passing, jumping, mean
 use Rattle.simulation.specs.Related.{Each, Paired, Passes}
 use Rattle.agreement.specs.Entries.{pastAll, each-paired, Crosses, Leads, Goes, crosses-behind}
 use Rattle.agreement.specs.Numbers.{Numbered}
-use Rattle.agreement.specs.Plans.{loaded, Ascending, numbered-ascending, EdgeNumbered}
+use Rattle.agreement.specs.Plans.{loaded, Ascending, numbered-ascending, valueLimit, EdgeNumbered}
 use Rattle.agreement.specs.Landings.{instructionLandings}
 use Rattle.agreement.specs.Items.{loadsOf, operands-loads}
 use Rattle.agreement.specs.Accepted.{Accepted, below-number, edge-in-file}
@@ -113,7 +113,7 @@ module _ (f : Function) (pointer : ℕ) (accepted : Accepted f) (dominated : Dom
           (loads-read (sizeOf f) (slotNumber f pointer) loads γ₃ landing-held) landing-jumps)
 
   -- EITHER WAY, by the plan of the instruction and of its block
-  module _ (n : InstructionPlan) (numbered : Each (EdgeNumbered f (not (isNone (listHere f spot)))) (spot .at .edges) (n .edges))
+  module _ (n : InstructionPlan) (numbered : Each (EdgeNumbered f (valueLimit f pointer) (not (isNone (listHere f spot)))) (spot .at .edges) (n .edges))
       (direct : (e : Edge) (ns : List Made) → Paired e (record { landing = none; arguments = ns }) (spot .at .edges) (n .edges)
       → LoadedWords f γ (loaded (e .arguments) ns))
       (plan : BlockPlan) (by : LaidBy f pointer accepted (spot .block) plan)
@@ -123,11 +123,11 @@ module _ (f : Function) (pointer : ℕ) (accepted : Accepted f) (dominated : Dom
         → Goes f (rewritten f pointer) (Entered f pointer) γ e (edgeTo landing e ns)
     edge-goes e none ns pair =
         let k = paired-first (spot .at .edges) (n .edges) e _ pair in
-        let h = each-paired (EdgeNumbered f (not (isNone (listHere f spot)))) (spot .at .edges) (n .edges) numbered e _ pair in
+        let h = each-paired (EdgeNumbered f (valueLimit f pointer) (not (isNone (listHere f spot)))) (spot .at .edges) (n .edges) numbered e _ pair in
         inl (direct-leads e k (h .0) (h .1) ns (h .3 .0) (direct e ns pair))
     edge-goes e (some c) ns pair =
         let k = paired-first (spot .at .edges) (n .edges) e _ pair in
-        let h = each-paired (EdgeNumbered f (not (isNone (listHere f spot)))) (spot .at .edges) (n .edges) numbered e _ pair in
+        let h = each-paired (EdgeNumbered f (valueLimit f pointer) (not (isNone (listHere f spot)))) (spot .at .edges) (n .edges) numbered e _ pair in
         let l = landingOf (sizeOf f) (slotNumber f pointer) e ns c in
         let inside = spot-inside f spot accepted in
         let stands : l ∈ landingsOf f pointer accepted (spot .block) plan =
@@ -148,7 +148,7 @@ module _ (f : Function) (pointer : ℕ) (accepted : Accepted f) (dominated : Dom
     pub edges-go : Each (Goes f (rewritten f pointer) (Entered f pointer) γ) (spot .at .edges) (zipWith rewrittenEdge (spot .at .edges) (n .edges))
     edges-go = go (spot .at .edges) (n .edges) numbered (λ e m pair. edge-goes e (m .landing) (m .arguments) pair)
       where
-        go : (es : List Edge) (ms : List EdgePlan) → Each (EdgeNumbered f (not (isNone (listHere f spot)))) es ms
+        go : (es : List Edge) (ms : List EdgePlan) → Each (EdgeNumbered f (valueLimit f pointer) (not (isNone (listHere f spot)))) es ms
             → ((e : Edge) (m : EdgePlan) → Paired e m es ms → Goes f (rewritten f pointer) (Entered f pointer) γ e (rewrittenEdge e m))
             → Each (Goes f (rewritten f pointer) (Entered f pointer) γ) es (zipWith rewrittenEdge es ms)
         go [] ms r h = tt

@@ -24,7 +24,7 @@ use Rattle.fixpoint.specs.Answer.{process-through-outs}
 use Rattle.simulation.specs.Ghost.{word, Ghost, nothingKnown, moving, defining}
 use Rattle.simulation.specs.Related.{Each, Paired, numbers, IsBlock, Related}
 use Rattle.agreement.specs.Entries.{pastAll, each-paired, Follows, follows-behind, Kept, entries-related}
-use Rattle.agreement.specs.Plans.{InstructionNumbered, BlockNumbered}
+use Rattle.agreement.specs.Plans.{valueLimit, InstructionNumbered, BlockNumbered}
 use Rattle.agreement.specs.Items.{loadsOf, items-in-order}
 use Rattle.agreement.specs.Accepted.{Accepted, is-block-at, block-in-file, below-number, parameter-in-file, result-in-file}
 use Rattle.agreement.specs.Layout.{mainBlock}
@@ -46,7 +46,7 @@ module _ (f : Function) (pointer : ℕ) (accepted : Accepted f) (dominated : Dom
 
   -- BEHIND ONE INSTRUCTION and its stores
   module _ (spot : Spot f) (n : InstructionPlan)
-      (numbered : InstructionNumbered f (spot .at, listHere f spot) n) (stored : ResultsStored (spot .at, listHere f spot) n) (γ : Ghost)
+      (numbered : InstructionNumbered f (valueLimit f pointer) (spot .at, listHere f spot) n) (stored : ResultsStored (spot .at, listHere f spot) n) (γ : Ghost)
       (point : Point f pointer (definedHere f spot) (liveBefore f spot) γ) where
     abbrev γ₂ : Ghost
     γ₂ = steppedGhost f pointer spot n γ
@@ -60,7 +60,7 @@ module _ (f : Function) (pointer : ℕ) (accepted : Accepted f) (dominated : Dom
     results-left : LeftStored f (sizeOf f) (slotNumber f pointer) (liveAfter f spot) (spot .at .results) (n .results) γ₂
     results-left =
         let moved = moving (isMarked f) (rewrittenHere f pointer spot n γ) (loadedGhost f pointer spot n γ) in
-        stores-left f (sizeOf f) (slotNumber f pointer) (liveAfter f spot) (spot .at .results) (n .results) γ₂ (numbered .results) stored
+        stores-left f (sizeOf f) (slotNumber f pointer) (liveAfter f spot) (valueLimit f pointer) (spot .at .results) (n .results) γ₂ (numbered .results) stored
         (λ v m. (
           result-in-file f accepted (spot .block) (spot-inside f spot accepted) (spot .at) (spot-stands f spot) v m,
           defining-new (spot .at .results) moved v (∈→has m),
@@ -85,7 +85,7 @@ module _ (f : Function) (pointer : ℕ) (accepted : Accepted f) (dominated : Dom
     listedFrom is = zipWith (λ i l. (i, l)) is (listsAmong f is (process f .outs t))
 
     instructions-follow : (earlier is : List Instruction) → instructionsOf (blockAt f t) ≡ earlier ++ is
-        → (ns : List InstructionPlan) → Each (InstructionNumbered f) (listedFrom is) ns → Each ResultsStored (listedFrom is) ns
+        → (ns : List InstructionPlan) → Each (InstructionNumbered f (valueLimit f pointer)) (listedFrom is) ns → Each ResultsStored (listedFrom is) ns
         → ((x : Instruction × Option (List ℕ)) (m : InstructionPlan) → Paired x m (listedFrom is) ns
         → Paired x m (listedInstructions f t) (plan .instructions))
         → (γ : Ghost) → Point f pointer (definedBefore f passed t earlier) (beforeAll f is (process f .outs t)) γ
@@ -129,13 +129,13 @@ module _ (f : Function) (pointer : ℕ) (accepted : Accepted f) (dominated : Dom
     abbrev γ₀ : Ghost
     γ₀ = defining (here-block .parameters) γ
 
-    numbered-here : BlockNumbered f t plan
-    numbered-here = each-paired (BlockNumbered f) (reachable f) (planned f pointer .0) (blocks-numbered f pointer accepted) t plan (by .0)
+    numbered-here : BlockNumbered f (valueLimit f pointer) t plan
+    numbered-here = each-paired (BlockNumbered f (valueLimit f pointer)) (reachable f) (planned f pointer .0) (blocks-numbered f pointer accepted) t plan (by .0)
 
     parameters-left : LeftStored f (sizeOf f) (slotNumber f pointer) live (here-block .parameters) (plan .parameters) γ₀
     parameters-left =
         let inside = entered-inside f pointer t γ entered accepted in
-        stores-left f (sizeOf f) (slotNumber f pointer) live (here-block .parameters) (plan .parameters) γ₀ (numbered-here .parameters)
+        stores-left f (sizeOf f) (slotNumber f pointer) live (valueLimit f pointer) (here-block .parameters) (plan .parameters) γ₀ (numbered-here .parameters)
         (apart .parameters-stored t plan (by .0))
         (λ v m. (parameter-in-file f accepted t inside v m, defining-new (here-block .parameters) γ v (∈→has m)))
         (apart .parameters-apart t (entered-reachable f pointer t γ entered)) (entering-held f pointer t γ entered)
@@ -170,7 +170,7 @@ module _ (f : Function) (pointer : ℕ) (accepted : Accepted f) (dominated : Dom
         (concatZip (instructionItems (sizeOf f) (slotNumber f pointer)) xs ns) (pastAll storesFirst γ₀))
         (sym listed-here)
         (instructions-follow t (entered .passed) (entered .path) plan by [] is refl ns
-        (subst (λ xs. Each (InstructionNumbered f) xs ns) listed-here (numbered-here .instructions))
+        (subst (λ xs. Each (InstructionNumbered f (valueLimit f pointer)) xs ns) listed-here (numbered-here .instructions))
         (subst (λ xs. Each ResultsStored xs ns) listed-here (apart .results-stored t plan (by .0)))
         (λ x m pair. subst (λ xs. Paired x m xs ns) (sym listed-here) pair) (pastAll storesFirst γ₀) first-point))
 

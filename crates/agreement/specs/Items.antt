@@ -108,12 +108,12 @@ module _ (size slot : ℕ → ℕ) where
   zip-length k R (x ∷ xs) (y ∷ ys) r = ap suc (zip-length k R xs ys (r .1))
 
   -- the instructions of a list with their own items
-  pub instructions-shape : (f : Function) (xs : List (Instruction × Option (List ℕ))) (ns : List InstructionPlan)
-      → Each (InstructionNumbered f) xs ns
+  pub instructions-shape : (f : Function) (limit : ℕ) (xs : List (Instruction × Option (List ℕ))) (ns : List InstructionPlan)
+      → Each (InstructionNumbered f limit) xs ns
       → Shape (at (map (λ x. instruction (x .0)) xs)) (concatZip (instructionItems size slot) xs ns)
-  instructions-shape f [] ns h = Shape.done
-  instructions-shape f (x ∷ xs) [] h = absurd h
-  instructions-shape f (x ∷ xs) (n ∷ ns) h =
+  instructions-shape f limit [] ns h = Shape.done
+  instructions-shape f limit (x ∷ xs) [] h = absurd h
+  instructions-shape f limit (x ∷ xs) (n ∷ ns) h =
       let i = x .0 in
       let rest = concatZip (instructionItems size slot) xs ns in
       let stores = concatZip (storeItems size slot) (i .results) (n .results) in
@@ -122,8 +122,8 @@ module _ (size slot : ℕ → ℕ) where
       subst (Shape (at (instruction i ∷ is))) (sym (items-in-order x n rest))
       (shape-behind (at (instruction i ∷ is)) (loadsOf (loadedBefore i n)) (instruction j ∷ (stores ++ rest)) (loads-added (loadedBefore i n))
       (Shape.kept i (j .arguments) (j .edges) (j .entries)
-      (zip-length rewrittenEdge (EdgeNumbered f (not (isNone (x .1)))) (i .edges) (n .edges) (h .0 .edges))
-      (shape-behind (at is) stores rest (stores-added (i .results) (n .results)) (instructions-shape f xs ns (h .1)))))
+      (zip-length rewrittenEdge (EdgeNumbered f limit (not (isNone (x .1)))) (i .edges) (n .edges) (h .0 .edges))
+      (shape-behind (at is) stores rest (stores-added (i .results) (n .results)) (instructions-shape f limit xs ns (h .1)))))
 
   -- a block's parameters' stores before them
   pub block-shape : (is : List Item) (vs : List ℕ) (ns : List Made) (js : List Item) → Shape (at is) js

@@ -14,7 +14,7 @@ use Rattle.rules.specs.Graph.{blockAt, sizeOf, valuesAmong, instructionsOf, rea
 use Rattle.rules.specs.Liveness.{isSpilled, process, listsOf, listedInstructions}
 use Rattle.rules.specs.Slots.{noSlots}
 use Rattle.rules.specs.Plan.{Plan, Made, EdgePlan, InstructionPlan, BlockPlan, Planning, _>>=_, pure, forEach, forEachBackward}
-use Rattle.rules.specs.Plan.{planSlot, planStore, planDefinition, planUse, planEdgeUse, planEdge, planLanding, planSafepointEdge}
+use Rattle.rules.specs.Plan.{newBlock, planSlot, planStore, planDefinition, planUse, planEdgeUse, planEdge, planLanding, planSafepointEdge}
 use Rattle.rules.specs.Plan.{planInstruction, planBlock, planned}
 use Rattle.rules.specs.declared.EdgeArgument.{EdgeArgument}
 use Rattle.rules.specs.declared.EdgeArgument.the-variants as passes
@@ -22,6 +22,8 @@ use Rattle.lists.specs.Members.{_∈_, here, there, not-∈-nil, ∈-elim}
 use Rattle.simulation.specs.Related.{Each}
 use Rattle.agreement.specs.Numbers.{neither, valueCount, one-more, Numbered, numbered-grows, arguments-numbered, uses-numbered}
 use Rattle.agreement.specs.Numbers.{landed-numbered, unspilled-numbered}
+use Rattle.agreement.specs.Growing.{nothing-kept, slots-cost, definition-costs, uses-cost, edge-costs, safepoint-edge-costs}
+use Rattle.agreement.specs.Growing.{instruction-costs, block-costs}
 
 -- LOADS. Which values are loaded for operands, each with its address, in order.
 abbrev pub loaded : List EdgeArgument → List Made → List (ℕ × ℕ)
@@ -87,95 +89,132 @@ unspilled-loads-none f lo hi (passes.Exception k ∷ xs) (none ∷ ns) t h = uns
 unspilled-loads-none f lo hi (passes.Exception k ∷ xs) (some p ∷ ns) t h = absurd (h .0)
 
 -- THE NUMBERS OF A FILE
-module _ (f : Function) where
-  -- a value beyond the file's
-  abbrev pub New : ℕ → Type 0
-  New n = length (f .values) ≤ n
+-- a value beyond the file's
+abbrev pub New : Function → ℕ → Type 0
+New f n = length (f .values) ≤ n
 
+-- an edge passes as many as its target has parameters
+abbrev pub Fits : Function → Edge → Type 0
+Fits f e = length (e .arguments) ≡ length (blockAt f (e .target) .parameters)
+
+-- how many values there are in the end
+abbrev pub valueLimit : Function → ℕ → ℕ
+valueLimit f pointer = valueCount (planned f pointer .1)
+
+-- numbers are new, and below a limit
+module _ (f : Function) (limit : ℕ) where
   -- a definition that is stored is spilled, through a new address
   abbrev pub Defined : ℕ → Made → Type 0
   Defined v none = Unit
-  Defined v (some a) = T (isSpilled f v) × New a
+  Defined v (some a) = T (isSpilled f v) × New f a × (a < limit)
 
   -- an edge's operands by its landing; one without a landing passes nothing spilled over a safepoint
   abbrev pub OperandsNumbered : Bool → List EdgeArgument → Option ℕ → List Made → ℕ → ℕ → Type 0
   OperandsNumbered safepoint xs none ns lo hi = Numbered f false lo hi xs ns × (T safepoint → T (not (any (isSpilled f) (valuesAmong xs))))
   OperandsNumbered safepoint xs (some _) ns lo hi = Numbered f true lo hi xs ns
 
-  -- and all their numbers are new
   abbrev pub EdgeNumbered : Bool → Edge → EdgePlan → Type 0
   EdgeNumbered safepoint e n =
-      (lo : ℕ) × (hi : ℕ) × New lo × OperandsNumbered safepoint (e .arguments) (n .landing) (n .arguments) lo hi
+      (lo : ℕ) × (hi : ℕ) × New f lo × OperandsNumbered safepoint (e .arguments) (n .landing) (n .arguments) lo hi × (hi ≤ limit)
 
   pub record InstructionNumbered (x : Instruction × Option (List ℕ)) (n : InstructionPlan) : Type 0 where
     pub first : ℕ
     pub last : ℕ
-    pub new : New first
+    pub new : New f first
     pub arguments : Numbered f false first last (map passes.Value (x .0 .arguments)) (n .arguments)
     pub edges : Each (EdgeNumbered (not (isNone (x .1)))) (x .0 .edges) (n .edges)
-    pub loads : (end : ℕ) × Ascending first end (loadedBefore (x .0) n)
+    pub loads : (end : ℕ) × Ascending first end (loadedBefore (x .0) n) × (end ≤ limit)
     pub results : Each Defined (x .0 .results) (n .results)
 
   pub record BlockNumbered (b : ℕ) (n : BlockPlan) : Type 0 where
     pub parameters : Each Defined (blockAt f b .parameters) (n .parameters)
     pub instructions : Each InstructionNumbered (listedInstructions f b) (n .instructions)
 
-  -- an edge passes as many as its target has parameters
-  abbrev pub Fits : Edge → Type 0
-  Fits e = length (e .arguments) ≡ length (blockAt f (e .target) .parameters)
-
 -- STEPS
-module _ {A B : Type 0} (k : A → Planning B) (R : A → B → Type 0) (n : ℕ) where
-  -- of each member a step leaves what it leaves of one, and counts stay above n
-  pub each-planned : (xs : List A) → ((x : A) → x ∈ xs → (p : Plan) → n ≤ valueCount p → R x (k x p .0) × (n ≤ valueCount (k x p .1)))
-      → (p : Plan) → n ≤ valueCount p
-      → Each R xs (forEach k xs p .0) × (n ≤ valueCount (forEach k xs p .1))
-  each-planned [] h p l = (tt, l)
-  each-planned (x ∷ xs) h p l =
-      let one = h x (here refl) p l in
-      let rest = each-planned xs (λ y m. h y (there m)) (k x p .1) (one .1) in
-      ((one .0, rest .0), rest .1)
+-- counts only grow
+abbrev Grows : {A : Type 0} → Planning A → Type 0
+Grows m = (p : Plan) → valueCount p ≤ valueCount (m p .1)
 
-  pub each-planned-backward : (xs : List A)
-      → ((x : A) → x ∈ xs → (p : Plan) → n ≤ valueCount p → R x (k x p .0) × (n ≤ valueCount (k x p .1)))
-      → (p : Plan) → n ≤ valueCount p
-      → Each R xs (forEachBackward k xs p .0) × (n ≤ valueCount (forEachBackward k xs p .1))
-  each-planned-backward [] h p l = (tt, l)
-  each-planned-backward (x ∷ xs) h p l =
-      let rest = each-planned-backward xs (λ y m. h y (there m)) p l in
-      let one = h x (here refl) (forEachBackward k xs p .1) (rest .1) in
-      ((one .0, rest .0), one .1)
+module _ {A B : Type 0} (k : A → Planning B) (grows : (x : A) → Grows (k x)) where
+  each-grows : (xs : List A) → Grows (forEach k xs)
+  each-grows [] p = omega arith
+  each-grows (x ∷ xs) p = omega (arith, grows x p, each-grows xs (k x p .1))
 
-module _ (f : Function) (pointer : ℕ) where
-  -- slots change no value
-  slots-planned : (vs : List ℕ) (p : Plan) → New f (valueCount p) → New f (valueCount (forEach (planSlot f pointer) vs p .1))
-  slots-planned vs p l = each-planned (planSlot f pointer) (λ _ _. Unit) (length (f .values)) vs (λ v m p l. (tt, l)) p l .1
+  backward-grows : (xs : List A) → Grows (forEachBackward k xs)
+  backward-grows [] p = omega arith
+  backward-grows (x ∷ xs) p = omega (arith, backward-grows xs p, grows x (forEachBackward k xs p .1))
 
-  definition-planned : (v : ℕ) (p : Plan) → New f (valueCount p)
-      → Defined f v (planDefinition f pointer v p .0) × New f (valueCount (planDefinition f pointer v p .1))
+  -- of each member a step leaves what it leaves of one, between a lowest count and a limit
+  module _ (R : A → B → Type 0) (lowest limit : ℕ) where
+    abbrev Leaves : List A → Type 0
+    Leaves xs = (x : A) → x ∈ xs → (p : Plan) → lowest ≤ valueCount p → valueCount (k x p .1) ≤ limit → R x (k x p .0)
+
+    each-planned : (xs : List A) → Leaves xs → (p : Plan) → lowest ≤ valueCount p → valueCount (forEach k xs p .1) ≤ limit
+        → Each R xs (forEach k xs p .0)
+    each-planned [] h p l u = tt
+    each-planned (x ∷ xs) h p l u =
+        let after = k x p .1 in
+        let more = each-grows xs after in
+        (h x (here refl) p l (omega (arith, more, u)), each-planned xs (λ y m. h y (there m)) after (omega (arith, l, grows x p)) u)
+
+    -- the last one first
+    each-planned-backward : (xs : List A) → Leaves xs → (p : Plan) → lowest ≤ valueCount p
+        → valueCount (forEachBackward k xs p .1) ≤ limit → Each R xs (forEachBackward k xs p .0)
+    each-planned-backward [] h p l u = tt
+    each-planned-backward (x ∷ xs) h p l u =
+        let before = forEachBackward k xs p .1 in (
+          h x (here refl) before (omega (arith, l, backward-grows xs p)) u,
+          each-planned-backward xs (λ y m. h y (there m)) p l (omega (arith, u, grows x before)),
+        )
+
+module _ (f : Function) (pointer limit : ℕ) where
+  definition-grows : (v : ℕ) → Grows (planDefinition f pointer v)
+  definition-grows v p = definition-costs f pointer _ _ _ (nothing-kept f pointer) v p .values
+
+  edge-grows : (e : Edge) → Grows (planEdge f pointer e)
+  edge-grows e p = edge-costs f pointer _ _ _ (nothing-kept f pointer) e p .values
+
+  safepoint-edge-grows : (e : Edge) → Grows (planSafepointEdge f pointer e)
+  safepoint-edge-grows e p = safepoint-edge-costs f pointer _ _ _ (nothing-kept f pointer) e p .values
+
+  uses-grow : (vs : List ℕ) → Grows (forEach (planUse f pointer) vs)
+  uses-grow vs p = uses-cost f pointer _ _ _ (nothing-kept f pointer) vs p .values
+
+  slots-grow : (vs : List ℕ) → Grows (forEach (planSlot f pointer) vs)
+  slots-grow vs p = slots-cost f pointer _ _ _ (nothing-kept f pointer) vs (λ _ _. tt) p .values
+
+  instruction-grows : (x : Instruction × Option (List ℕ)) → Grows (planInstruction f pointer x)
+  instruction-grows x p = instruction-costs f pointer _ _ _ (nothing-kept f pointer) x (λ _ _. tt) p .values
+
+  block-grows : (b : ℕ) → Grows (planBlock f pointer b)
+  block-grows b p = block-costs f pointer _ _ _ (nothing-kept f pointer) b (λ _ _ _ _. tt) p .values
+
+  -- DEFINITIONS
+  definition-planned : (v : ℕ) (p : Plan) → New f (valueCount p) → valueCount (planDefinition f pointer v p .1) ≤ limit
+      → Defined f limit v (planDefinition f pointer v p .0)
   definition-planned v p l = go (isSpilled f v) (λ t. t) (p .slots .slotOf v)
     where
       go : (c : Bool) → (T c → T (isSpilled f v)) → (slot : Option ℕ)
-          → Defined f v (cond c (planStore f pointer v slot p) (none, p) .0)
-          × New f (valueCount (cond c (planStore f pointer v slot p) (none, p) .1))
-      go true s none = (tt, l)
-      go true s (some slot) = ((s tt, l), omega (arith, l, one-more (p .values) (record { size = pointer; marked = false })))
-      go false s slot = (tt, l)
+          → valueCount (cond c (planStore f pointer v slot p) (none, p) .1) ≤ limit
+          → Defined f limit v (cond c (planStore f pointer v slot p) (none, p) .0)
+      go true s none u = tt
+      go true s (some slot) u = (s tt, l, omega (arith, u, one-more (p .values) (record { size = pointer; marked = false })))
+      go false s slot u = tt
 
   definitions-planned : (vs : List ℕ) (p : Plan) → New f (valueCount p)
-      → Each (Defined f) vs (forEach (planDefinition f pointer) vs p .0)
-      × New f (valueCount (forEach (planDefinition f pointer) vs p .1))
-  definitions-planned vs = each-planned (planDefinition f pointer) (Defined f) (length (f .values)) vs (λ v m. definition-planned v)
+      → valueCount (forEach (planDefinition f pointer) vs p .1) ≤ limit
+      → Each (Defined f limit) vs (forEach (planDefinition f pointer) vs p .0)
+  definitions-planned vs =
+      each-planned (planDefinition f pointer) definition-grows (Defined f limit) (length (f .values)) limit vs (λ v m. definition-planned v)
+
+  definitions-grow : (vs : List ℕ) → Grows (forEach (planDefinition f pointer) vs)
+  definitions-grow = each-grows (planDefinition f pointer) definition-grows
 
   -- EDGES without landings, and their loads
-  edge-planned : (e : Edge) (p : Plan) → New f (valueCount p)
-      → EdgeNumbered f false e (planEdge f pointer e p .0) × New f (valueCount (planEdge f pointer e p .1))
-  edge-planned e p l =
-      let h = uses-numbered f pointer (e .arguments) p in
-      let q = planEdge f pointer e p .1 in (
-        (valueCount p, valueCount q, l, (h, λ t. absurd t)),
-        omega (arith, l, numbered-grows f false (valueCount p) (valueCount q) (e .arguments) (planEdge f pointer e p .0 .arguments) h),
-      )
+  edge-planned : (e : Edge) (p : Plan) → New f (valueCount p) → valueCount (planEdge f pointer e p .1) ≤ limit
+      → EdgeNumbered f limit false e (planEdge f pointer e p .0)
+  edge-planned e p l u =
+      (valueCount p, valueCount (planEdge f pointer e p .1), l, (uses-numbered f pointer (e .arguments) p, λ t. absurd t), u)
 
   edges-ascending : (es : List Edge) (p : Plan)
       → Ascending (valueCount p) (valueCount (forEach (planEdge f pointer) es p .1))
@@ -191,33 +230,34 @@ module _ (f : Function) (pointer : ℕ) where
       (edges-ascending es (one .1))
 
   -- at a safepoint
-  safepoint-edge-planned : (e : Edge) → Fits f e → (p : Plan) → New f (valueCount p)
-      → EdgeNumbered f true e (planSafepointEdge f pointer e p .0) × New f (valueCount (planSafepointEdge f pointer e p .1))
+  safepoint-edge-planned : (e : Edge) → Fits f e → (p : Plan) → New f (valueCount p) → valueCount (planSafepointEdge f pointer e p .1) ≤ limit
+      → EdgeNumbered f limit true e (planSafepointEdge f pointer e p .0)
   safepoint-edge-planned e fits p l = go (any (isSpilled f) (valuesAmong (e .arguments))) (λ t. t)
     where
       none-made : EdgePlan
       none-made = record { landing = none; arguments = map (λ _. none) (e .arguments) }
 
       go : (c : Bool) → (T (not c) → T (not (any (isSpilled f) (valuesAmong (e .arguments)))))
-          → EdgeNumbered f true e (cond c (planLanding f pointer e) (pure none-made) p .0)
-          × New f (valueCount (cond c (planLanding f pointer e) (pure none-made) p .1))
-      go true n =
-          let r = planLanding f pointer e p in
-          let h = landed-numbered f pointer (e .arguments) (blockAt f (e .target) .parameters) fits
-          (record { slots = p .slots; values = p .values; blocks = suc (p .blocks) }) in (
-            (valueCount p, valueCount (r .1), l, h),
-            omega (arith, l, numbered-grows f true (valueCount p) (valueCount (r .1)) (e .arguments) (r .0 .arguments) h),
-          )
-      go false n = ((valueCount p, valueCount p, l, (unspilled-numbered f pointer (e .arguments) (valueCount p) (n tt), λ _. n tt)), l)
+          → valueCount (cond c (planLanding f pointer e) (pure none-made) p .1) ≤ limit
+          → EdgeNumbered f limit true e (cond c (planLanding f pointer e) (pure none-made) p .0)
+      go true n u = (
+        valueCount p,
+        valueCount (planLanding f pointer e p .1),
+        l,
+        landed-numbered f pointer (e .arguments) (blockAt f (e .target) .parameters) fits (newBlock p .1),
+        u,
+      )
+      go false n u =
+          (valueCount p, valueCount p, l, (unspilled-numbered f pointer (e .arguments) (valueCount p) (n tt), λ _. n tt), u)
 
   -- no edge of a safepoint has anything loaded before it
-  safepoint-loads-none : (es : List Edge) (ns : List EdgePlan) → Each (EdgeNumbered f true) es ns → concatZip edgeLoaded es ns ≡ []
+  safepoint-loads-none : (es : List Edge) (ns : List EdgePlan) → Each (EdgeNumbered f limit true) es ns → concatZip edgeLoaded es ns ≡ []
   safepoint-loads-none [] ns h = refl
   safepoint-loads-none (e ∷ es) [] h = refl
   safepoint-loads-none (e ∷ es) (n ∷ ns) h =
       go (n .landing) (n .arguments) (h .0) ∙ safepoint-loads-none es ns (h .1)
     where
-      go : (l : Option ℕ) (ms : List Made) → EdgeNumbered f true e (record { landing = l; arguments = ms })
+      go : (l : Option ℕ) (ms : List Made) → EdgeNumbered f limit true e (record { landing = l; arguments = ms })
           → edgeLoaded e (record { landing = l; arguments = ms }) ++ concatZip edgeLoaded es ns ≡ concatZip edgeLoaded es ns
       go none ms h =
           ap (λ ls. ls ++ concatZip edgeLoaded es ns)
@@ -225,84 +265,91 @@ module _ (f : Function) (pointer : ℕ) where
       go (some b) ms h = refl
 
   -- INSTRUCTIONS
-  instruction-planned : (x : Instruction × Option (List ℕ)) → ((e : Edge) → e ∈ x .0 .edges → Fits f e) → (p : Plan) → New f (valueCount p)
-      → InstructionNumbered f x (planInstruction f pointer x p .0) × New f (valueCount (planInstruction f pointer x p .1))
-  instruction-planned (i, none) fits p l =
-      let rs = definitions-planned (i .results) p l in
+  instruction-planned : (x : Instruction × Option (List ℕ)) → ((e : Edge) → e ∈ x .0 .edges → Fits f e)
+      → (p : Plan) → New f (valueCount p) → valueCount (planInstruction f pointer x p .1) ≤ limit
+      → InstructionNumbered f limit x (planInstruction f pointer x p .0)
+  instruction-planned (i, none) fits p l u =
       let behind = forEach (planDefinition f pointer) (i .results) p .1 in
       let us = forEach (planUse f pointer) (i .arguments) behind in
+      let end = forEach (planEdge f pointer) (i .edges) (us .1) in
       let numbered = arguments-numbered f pointer (i .arguments) behind in
       let xs = map passes.Value (i .arguments) in
-      let grown = numbered-grows f false (valueCount behind) (valueCount (us .1)) xs (us .0) numbered in
-      let es =
-      each-planned (planEdge f pointer) (EdgeNumbered f false) (length (f .values)) (i .edges) (λ e m. edge-planned e) (us .1)
-      (omega (arith, rs .1, grown)) in
-      let end = forEach (planEdge f pointer) (i .edges) (us .1) in (
-        record {
-          first = valueCount behind;
-          last = valueCount (us .1);
-          new = rs .1;
-          arguments = numbered;
-          edges = es .0;
-          loads = (
-            valueCount (end .1),
-            ascending-append (valueCount behind) (valueCount (us .1)) (valueCount (end .1)) (loaded xs (us .0))
-                (concatZip edgeLoaded (i .edges) (end .0))
-                (numbered-ascending f false (valueCount behind) (valueCount (us .1)) xs (us .0) numbered)
-                (edges-ascending (i .edges) (us .1)),
-          );
-          results = rs .0;
-        },
-        es .1,
-      )
-  instruction-planned (i, some list) fits p l =
-      let rs = definitions-planned (i .results) p l in
+      let grown₁ = definitions-grow (i .results) p in
+      let grown₂ = uses-grow (i .arguments) behind in
+      let grown₃ = each-grows (planEdge f pointer) edge-grows (i .edges) (us .1) in
+      record {
+        first = valueCount behind;
+        last = valueCount (us .1);
+        new = omega (arith, l, grown₁);
+        arguments = numbered;
+        edges = each-planned (planEdge f pointer) edge-grows (EdgeNumbered f limit false) (length (f .values)) limit (i .edges)
+            (λ e m. edge-planned e) (us .1) (omega (arith, l, grown₁, grown₂)) u;
+        loads = (
+          valueCount (end .1),
+          ascending-append (valueCount behind) (valueCount (us .1)) (valueCount (end .1)) (loaded xs (us .0))
+              (concatZip edgeLoaded (i .edges) (end .0))
+              (numbered-ascending f false (valueCount behind) (valueCount (us .1)) xs (us .0) numbered)
+              (edges-ascending (i .edges) (us .1)),
+          u,
+        );
+        results = definitions-planned (i .results) p l (omega (arith, u, grown₂, grown₃));
+      }
+  instruction-planned (i, some list) fits p l u =
       let behind = forEach (planDefinition f pointer) (i .results) p .1 in
       let given = forEach (planSlot f pointer) list behind .1 in
-      let es =
-      each-planned (planSafepointEdge f pointer) (EdgeNumbered f true) (length (f .values)) (i .edges)
-      (λ e m. safepoint-edge-planned e (fits e m)) given (slots-planned list behind (rs .1)) in
       let led = forEach (planSafepointEdge f pointer) (i .edges) given in
       let us = forEach (planUse f pointer) (i .arguments) (led .1) in
       let numbered = arguments-numbered f pointer (i .arguments) (led .1) in
       let xs = map passes.Value (i .arguments) in
-      let grown = numbered-grows f false (valueCount (led .1)) (valueCount (us .1)) xs (us .0) numbered in
-      let none-loaded = safepoint-loads-none (i .edges) (led .0) (es .0) in (
-        record {
-          first = valueCount (led .1);
-          last = valueCount (us .1);
-          new = es .1;
-          arguments = numbered;
-          edges = es .0;
-          loads = (
-            valueCount (us .1),
-            ascending-append (valueCount (led .1)) (valueCount (us .1)) (valueCount (us .1)) (loaded xs (us .0))
-                (concatZip edgeLoaded (i .edges) (led .0))
-                (numbered-ascending f false (valueCount (led .1)) (valueCount (us .1)) xs (us .0) numbered)
-                (subst (Ascending (valueCount (us .1)) (valueCount (us .1))) (sym none-loaded) (omega arith)),
-          );
-          results = rs .0;
-        },
-        omega (arith, es .1, grown),
-      )
+      let grown₁ = definitions-grow (i .results) p in
+      let grown₂ = slots-grow list behind in
+      let grown₃ = each-grows (planSafepointEdge f pointer) safepoint-edge-grows (i .edges) given in
+      let grown₄ = uses-grow (i .arguments) (led .1) in
+      let es =
+      each-planned (planSafepointEdge f pointer) safepoint-edge-grows (EdgeNumbered f limit true) (length (f .values)) limit (i .edges)
+      (λ e m. safepoint-edge-planned e (fits e m)) given (omega (arith, l, grown₁, grown₂)) (omega (arith, u, grown₄)) in
+      record {
+        first = valueCount (led .1);
+        last = valueCount (us .1);
+        new = omega (arith, l, grown₁, grown₂, grown₃);
+        arguments = numbered;
+        edges = es;
+        loads = (
+          valueCount (us .1),
+          ascending-append (valueCount (led .1)) (valueCount (us .1)) (valueCount (us .1)) (loaded xs (us .0))
+              (concatZip edgeLoaded (i .edges) (led .0))
+              (numbered-ascending f false (valueCount (led .1)) (valueCount (us .1)) xs (us .0) numbered)
+              (subst (Ascending (valueCount (us .1)) (valueCount (us .1))) (sym (safepoint-loads-none (i .edges) (led .0) es)) (omega arith)),
+          u,
+        );
+        results = definitions-planned (i .results) p l (omega (arith, u, grown₂, grown₃, grown₄));
+      }
 
   -- BLOCKS
   block-planned : (b : ℕ) → ((x : Instruction × Option (List ℕ)) → x ∈ listedInstructions f b → (e : Edge) → e ∈ x .0 .edges → Fits f e)
-      → (p : Plan) → New f (valueCount p)
-      → BlockNumbered f b (planBlock f pointer b p .0) × New f (valueCount (planBlock f pointer b p .1))
-  block-planned b fits p l =
+      → (p : Plan) → New f (valueCount p) → valueCount (planBlock f pointer b p .1) ≤ limit
+      → BlockNumbered f limit b (planBlock f pointer b p .0)
+  block-planned b fits p l u =
       let early = keep (isSpilled f) (members (length (f .values)) (process f .outs b)) in
       let given = forEach (planSlot f pointer) early p .1 in
-      let is =
-      each-planned-backward (planInstruction f pointer) (InstructionNumbered f) (length (f .values)) (listedInstructions f b)
-      (λ x m. instruction-planned x (fits x m)) given (slots-planned early p l) in
-      let ps = definitions-planned (blockAt f b .parameters) (forEachBackward (planInstruction f pointer) (listedInstructions f b) given .1) (is .1) in
-      (record { parameters = ps .0; instructions = is .0 }, ps .1)
+      let walked = forEachBackward (planInstruction f pointer) (listedInstructions f b) given .1 in
+      let grown₁ = slots-grow early p in
+      let grown₂ =
+      backward-grows (planInstruction f pointer) instruction-grows (listedInstructions f b) given in
+      let grown₃ = definitions-grow (blockAt f b .parameters) walked in
+      record {
+        parameters = definitions-planned (blockAt f b .parameters) walked (omega (arith, l, grown₁, grown₂)) u;
+        instructions = each-planned-backward (planInstruction f pointer) instruction-grows (InstructionNumbered f limit) (length (f .values)) limit
+            (listedInstructions f b) (λ x m. instruction-planned x (fits x m)) given (omega (arith, l, grown₁)) (omega (arith, u, grown₃));
+      }
 
-  -- Every reachable block's numbers are as they should.
-  pub planned-numbered : ((b : ℕ) → b ∈ reachable f → (x : Instruction × Option (List ℕ)) → x ∈ listedInstructions f b → (e : Edge) → e ∈ x .0 .edges → Fits f e)
-      → Each (BlockNumbered f) (reachable f) (planned f pointer .0)
-  unfolding planned
-  planned-numbered fits =
-      each-planned (planBlock f pointer) (BlockNumbered f) (length (f .values)) (reachable f) (λ b m. block-planned b (fits b m))
-      (record { slots = noSlots; values = f .values; blocks = length (f .blocks) }) (omega arith) .0
+-- Every reachable block's numbers are new, and below the number of values in the end.
+pub planned-numbered : (f : Function) (pointer : ℕ)
+    → ((b : ℕ) → b ∈ reachable f → (x : Instruction × Option (List ℕ)) → x ∈ listedInstructions f b → (e : Edge) → e ∈ x .0 .edges → Fits f e)
+    → Each (BlockNumbered f (valueLimit f pointer)) (reachable f) (planned f pointer .0)
+unfolding planned
+planned-numbered f pointer fits =
+    let limit = valueLimit f pointer in
+    each-planned (planBlock f pointer) (block-grows f pointer limit) (BlockNumbered f limit) (length (f .values)) limit (reachable f)
+    (λ b m. block-planned f pointer limit b (fits b m)) (record { slots = noSlots; values = f .values; blocks = length (f .blocks) })
+    (omega arith) (omega arith)

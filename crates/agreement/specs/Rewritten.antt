@@ -21,7 +21,7 @@ use Rattle.lists.specs.Maps.{map-map}
 use Rattle.walks.specs.InFile.{reachable-in-file}
 use Rattle.simulation.specs.Related.{Each, Paired, numbers, found, IsBlock, at, crossing, Shape, refilled, Laid, Lands}
 use Rattle.agreement.specs.Entries.{each-paired}
-use Rattle.agreement.specs.Plans.{BlockNumbered, planned-numbered, Fits}
+use Rattle.agreement.specs.Plans.{valueLimit, BlockNumbered, planned-numbered}
 use Rattle.agreement.specs.Landings.{Between, instructionLandings, blockLandings, allLandings, landings-between}
 use Rattle.agreement.specs.Items.{instructions-shape, block-shape, landing-shape, copied-shape}
 use Rattle.agreement.specs.Accepted.{Accepted, found-member, block-by-number, block-number, block-in-file, number-below, edge-fits}
@@ -46,7 +46,7 @@ module _ (f : Function) (pointer : ℕ) (accepted : Accepted f) where
       subst (λ (is : List Instruction). x .0 ∈ is) (listed-firsts f b) (Memᴰ·map (λ (x : Instruction × Option (List ℕ)). x .0) m)
 
   -- the numbers of every reachable block's plan
-  pub blocks-numbered : Each (BlockNumbered f) (reachable f) (planned f pointer .0)
+  pub blocks-numbered : Each (BlockNumbered f (valueLimit f pointer)) (reachable f) (planned f pointer .0)
   blocks-numbered =
       planned-numbered f pointer (λ b m x k e. edge-fits f accepted b (in-file b m) (x .0) (listed-instruction b x k) e)
 
@@ -80,7 +80,7 @@ module _ (f : Function) (pointer : ℕ) (accepted : Accepted f) where
             (landing-shape (sizeOf f) (slotNumber f pointer) e e′ ns b)
 
   -- the rewritten block of a block of the file
-  main-shaped : (b : Block) → b ∈ f .blocks → (n : BlockPlan) → BlockNumbered f (b .number) n
+  main-shaped : (b : Block) → b ∈ f .blocks → (n : BlockPlan) → BlockNumbered f (valueLimit f pointer) (b .number) n
       → Shape (at (b .items)) (mainBlock f pointer b (listedInstructions f (b .number)) n .items)
   main-shaped b m n numbered =
       let listed = listedInstructions f (b .number) in
@@ -91,7 +91,7 @@ module _ (f : Function) (pointer : ℕ) (accepted : Accepted f) where
       block-shape (sizeOf f) (slotNumber f pointer) (b .items) (b .parameters) (n .parameters)
       (concatZip (instructionItems (sizeOf f) (slotNumber f pointer)) listed (n .instructions))
       (subst (λ is. Shape (at is) (concatZip (instructionItems (sizeOf f) (slotNumber f pointer)) listed (n .instructions))) same
-      (instructions-shape (sizeOf f) (slotNumber f pointer) f listed (n .instructions) (numbered .instructions)))
+      (instructions-shape (sizeOf f) (slotNumber f pointer) f (valueLimit f pointer) listed (n .instructions) (numbered .instructions)))
 
   abbrev lay : Block → List Block
   lay = laid f pointer (reachable f) (planned f pointer .0)
@@ -103,11 +103,11 @@ module _ (f : Function) (pointer : ℕ) (accepted : Accepted f) where
       let m = h b (here refl) in
       test-elim (has (b .number) (reachable f))
       (λ t.
-      let p = laid-planned f pointer (BlockNumbered f) (reachable f) (planned f pointer .0) blocks-numbered b (has→∈ (reachable f) t) in
+      let p = laid-planned f pointer (BlockNumbered f (valueLimit f pointer)) (reachable f) (planned f pointer .0) blocks-numbered b (has→∈ (reachable f) t) in
       let n = p .0 in
       subst (λ ls. Laid (numbers (f .blocks)) (b ∷ bs) (ls ++ concatMap lay bs)) (sym (p .2))
       (Laid.block b
-      (main-shaped b m n (each-paired (BlockNumbered f) (reachable f) (planned f pointer .0) blocks-numbered (b .number) n (p .1)))
+      (main-shaped b m n (each-paired (BlockNumbered f (valueLimit f pointer)) (reachable f) (planned f pointer .0) blocks-numbered (b .number) n (p .1)))
       (landings-laid (blockLandings f pointer (sizeOf f) (slotNumber f pointer) (b .number) n)
       (λ l k. (landing-new (b .number) n (p .1) l k, landing-shaped (b .number) n (p .1) l k)) rest)))
       (λ t.
@@ -162,7 +162,7 @@ module _ (f : Function) (pointer : ℕ) (accepted : Accepted f) where
       let t = b .number in
       test-elim (has t (reachable f))
       (λ r.
-      let p = laid-planned f pointer (BlockNumbered f) (reachable f) (planned f pointer .0) blocks-numbered b (has→∈ (reachable f) r) in
+      let p = laid-planned f pointer (BlockNumbered f (valueLimit f pointer)) (reachable f) (planned f pointer .0) blocks-numbered b (has→∈ (reachable f) r) in
       let n = p .0 in
       let by : LaidBy t n = (
         p .1,

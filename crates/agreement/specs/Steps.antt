@@ -22,7 +22,7 @@ use Rattle.fixpoint.specs.Finding.{any-intro}
 use Rattle.simulation.specs.Ghost.{word, Ghost, moving, stepping}
 use Rattle.simulation.specs.Related.{Each, Paired}
 use Rattle.agreement.specs.Entries.{pastAll, ReadsAll, each-paired}
-use Rattle.agreement.specs.Plans.{loaded, edgeLoaded, loadedBefore, EdgeNumbered, InstructionNumbered}
+use Rattle.agreement.specs.Plans.{loaded, edgeLoaded, loadedBefore, valueLimit, EdgeNumbered, InstructionNumbered}
 use Rattle.agreement.specs.Items.{loadsOf}
 use Rattle.agreement.specs.Accepted.{Accepted}
 use Rattle.agreement.specs.Layout.{∈-concatZip-from, ∈-concatZip, paired-first}
@@ -49,7 +49,7 @@ module _ (f : Function) (pointer : ℕ) (spot : Spot f) (n : InstructionPlan) (�
   steppedGhost = stepping (isMarked f) rewrittenHere loadedGhost
 
 module _ (f : Function) (pointer : ℕ) (accepted : Accepted f) (dominated : Dominated f) (spot : Spot f) (n : InstructionPlan)
-    (numbered : InstructionNumbered f (spot .at, listHere f spot) n) (γ : Ghost)
+    (numbered : InstructionNumbered f (valueLimit f pointer) (spot .at, listHere f spot) n) (γ : Ghost)
     (point : Point f pointer (definedHere f spot) (liveBefore f spot) γ) where
   -- LOADS
   -- what is loaded is spilled and live before the instruction, so held
@@ -64,7 +64,7 @@ module _ (f : Function) (pointer : ℕ) (accepted : Accepted f) (dominated : Dom
       )
 
   edge-loaded : (e : Edge) → e ∈ spot .at .edges → (landing : Option ℕ) (ns : List Made)
-      → EdgeNumbered f (not (isNone (listHere f spot))) e (record { landing = landing; arguments = ns })
+      → EdgeNumbered f (valueLimit f pointer) (not (isNone (listHere f spot))) e (record { landing = landing; arguments = ns })
       → (l : ℕ × ℕ) → l ∈ edgeLoaded e (record { landing = landing; arguments = ns })
       → T (isSpilled f (l .0)) × T (liveBefore f spot (l .0))
   edge-loaded e k none ns h l m =
@@ -84,7 +84,7 @@ module _ (f : Function) (pointer : ℕ) (accepted : Accepted f) (dominated : Dom
       (λ k.
       let from = ∈-concatZip-from edgeLoaded (spot .at .edges) (n .edges) k in
       edge-loaded (from .0) (paired-first (spot .at .edges) (n .edges) (from .0) (from .1) (from .2)) (from .1 .landing) (from .1 .arguments)
-      (each-paired (EdgeNumbered f (not (isNone (listHere f spot)))) (spot .at .edges) (n .edges) (numbered .edges) (from .0) (from .1) (from .2))
+      (each-paired (EdgeNumbered f (valueLimit f pointer) (not (isNone (listHere f spot)))) (spot .at .edges) (n .edges) (numbered .edges) (from .0) (from .1) (from .2))
       l (from .3))
       (List·Memᴰ·append-cases (loaded (map passes.Value (spot .at .arguments)) (n .arguments)) m)
 
@@ -144,7 +144,7 @@ module _ (f : Function) (pointer : ℕ) (accepted : Accepted f) (dominated : Dom
   pub direct-loaded : (e : Edge) (ns : List Made) → Paired e (record { landing = none; arguments = ns }) (spot .at .edges) (n .edges)
       → LoadedWords f (steppedGhost f pointer spot n γ) (loaded (e .arguments) ns)
   direct-loaded e ns pair l m =
-      let h = each-paired (EdgeNumbered f (not (isNone (listHere f spot)))) (spot .at .edges) (n .edges) (numbered .edges) e _ pair in
+      let h = each-paired (EdgeNumbered f (valueLimit f pointer) (not (isNone (listHere f spot)))) (spot .at .edges) (n .edges) (numbered .edges) e _ pair in
       let k = paired-first (spot .at .edges) (n .edges) e _ pair in
       let j = rewrittenHere f pointer spot n γ in
       let γ₁ = loadedGhost f pointer spot n γ in
