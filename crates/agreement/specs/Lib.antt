@@ -22,3 +22,4 @@ pub mod Unchanged
 pub mod Verdicts
 pub mod FinalFile
 pub mod Demand3
+pub mod SlotTables
