@@ -23,3 +23,5 @@ pub mod Verdicts
 pub mod FinalFile
 pub mod Demand3
 pub mod SlotTables
+pub mod Words
+pub mod Totals
