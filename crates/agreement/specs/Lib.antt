@@ -25,3 +25,4 @@ pub mod Demand3
 pub mod SlotTables
 pub mod Words
 pub mod Totals
+pub mod Fine

@@ -19,12 +19,13 @@ use Rattle.rules.specs.declared.EdgeArgument.the-variants as passes
 use Rattle.rules.specs.declared.Record.{Record}
 use Rattle.rules.specs.declared.Record.the-variants as record′
 use Rattle.rules.specs.declared.Words.{Words}
-use Rattle.lists.specs.Tests.{T-and, and-left, and-right}
-use Rattle.lists.specs.Members.{_∈_, here, there, not-∈-nil, ∈-elim, ∈-concatMap}
+use Rattle.lists.specs.Tests.{and-left, and-right, passes-at}
+use Rattle.lists.specs.Members.{_∈_, here, there, not-∈-nil, ∈-elim, all→∈, ∈-concatMap}
 use Rattle.records.specs.Writing.{IsWord}
 use Rattle.records.specs.Values.{valueOf}
 use Rattle.records.specs.InOrder.{whole, cut-joins}
-use Rattle.records.specs.Parts.{argument, block-instructions-are, edgeArguments-in-order}
+use Rattle.records.specs.Parts.{isInstruction, inBlock, inBody, body-allowed, block-instructions, block-instructions-are, argument, edgeArguments-in-order}
+use Rattle.records.specs.Kinds.{kinds-weaken, ofKind-none}
 use Rattle.agreement.specs.SlotTables.{ValueSize}
 use Rattle.agreement.specs.Verdicts.{block-section}
 
@@ -51,9 +52,19 @@ pub record Small (r : Record) : Type 0 where
   pub fourth : IsWord (encode r .fourth)
   pub value : T (eqb (kind r) 1) → ValueSize (encode r .second)
 
-bit-small : (b : Bool) → bit b ≤ 1
+pub bit-small : (b : Bool) → bit b ≤ 1
 bit-small true = omega arith
 bit-small false = omega arith
+
+pub log-small : (size : ℕ) → IsWord (log2 size)
+log-small size = go (eqb size 1) (eqb size 2) (eqb size 4) (eqb size 8)
+  where
+    go : (p q r t : Bool) → IsWord (cond p 0 (cond q 1 (cond r 2 (cond t 3 4))))
+    go true q r t = omega arith
+    go false true r t = omega arith
+    go false false true t = omega arith
+    go false false false true = omega arith
+    go false false false false = omega arith
 
 -- a row of the table whose record is of another kind than 1
 other : (r : Record) → IsWord (encode r .second) → IsWord (encode r .third) → IsWord (encode r .fourth) → T (not (eqb (kind r) 1)) → Small r
@@ -110,23 +121,13 @@ module _ (k a b c : ℕ) (x : IsWord a) (y : IsWord b) (z : IsWord c) where
       (either (eqb k 7) _ _ (row two _ (λ _. other (record′.Edge a) x no no tt))
       (either (eqb k 8) _ _ (row (eqb c 0 && leb a 2) _ (λ _. edge-argument-small a b y))
       (either (eqb k 9) _ _ (row two _ (λ _. other (record′.Context a) x no no tt))
-      (either (eqb k 10) _ _ (row (eqb c 0 && (has a slotSizes && eqb b (log2 a))) _ (λ t. other (record′.Slot a) x (slot-log a) no tt))
+      (either (eqb k 10) _ _ (row (eqb c 0 && (has a slotSizes && eqb b (log2 a))) _ (λ t. other (record′.Slot a) x (log-small a) no tt))
       (either (eqb k 11) _ _ (row (eqb c 0 && true) _ (λ _. other (record′.MapEntry a b) x y no tt))
       (either (eqb k 12) _ _ (row (eqb c 0 && true) _ (λ _. other (record′.SlotAddress a b) x y no tt))
       (either (eqb k 13) _ _ (row (eqb c 0 && true) _ (λ _. other (record′.Store a b) x y no tt))
       (either (eqb k 14) _ _ (other (record′.Load a b c) x y z tt)
       (either (eqb k 15) _ _ (either (eqb a 0) _ _ (row two _ (λ _. other record′.Jump no no no tt)) outside)
       outside))))))))))))))
-    where
-      slot-log : (size : ℕ) → IsWord (log2 size)
-      slot-log size = go (eqb size 1) (eqb size 2) (eqb size 4) (eqb size 8)
-        where
-          go : (p q r t : Bool) → IsWord (cond p 0 (cond q 1 (cond r 2 (cond t 3 4))))
-          go true q r t = omega arith
-          go false true r t = omega arith
-          go false false true t = omega arith
-          go false false false true = omega arith
-          go false false false false = omega arith
 
 -- every record of bytes
 pub record-small : (s : List ℕ) → IsBytes s → (r : Record) → r ∈ records s → Small r
@@ -188,3 +189,18 @@ module _ (s : List ℕ) (h : IsBytes s) (order : T (ordered 0 (records s))) wher
       subst (λ y. IsWord (encode (record′.EdgeArgument y) .third)) (word .2)
       (edge-argument-small (word .0 .second) (word .0 .third)
       (subst (λ (w : Words). IsWord (w .third)) (sym (from .3)) (record-small s h (from .0) (from .1) .third)) .third)
+
+  -- An instruction of an input has no map entries.
+  pub entries-none : (b : Block) → b ∈ functionIn s .blocks → (i : Instruction) → i ∈ instructionsOf b → i .entries ≡ []
+  entries-none b m i k =
+      let x = block-section (records s) order b m in
+      let ts = cut opensItem (x .0 .body) .sections in
+      let is : i ∈ map instructionOf ts = subst (_∈_ i) (ap instructionsOf (sym (x .2)) ∙ block-instructions-are (x .0) (x .3)) k in
+      let t = Memᴰ·of-map instructionOf ts is in
+      let kinds = body-allowed (t .0) (all→∈ isInstruction ts (block-instructions (x .0 .body) (x .3)) (t .1)) in
+      let none = ofKind-none 11 (t .0 .body) (kinds-weaken inBody (λ j. not (eqb j 11)) no-entry (t .0 .body) kinds) in
+      subst (λ (j : Instruction). j .entries ≡ []) (t .2) (ap (map (λ (w : Words). record { slot = w .second; size = w .third })) none)
+    where
+      no-entry : (j : ℕ) → T (inBody j) → T (not (eqb j 11))
+      no-entry j h =
+          passes-at (λ j. not (eqb j 11)) (3 ∷ 4 ∷ 5 ∷ 6 ∷ 7 ∷ 8 ∷ 9 ∷ []) tt j (and-right (not (opensItem j)) (inBlock j) h)
