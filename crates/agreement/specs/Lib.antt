@@ -26,3 +26,4 @@ pub mod SlotTables
 pub mod Words
 pub mod Totals
 pub mod Fine
+pub mod Writable

@@ -52,7 +52,7 @@ module _ (f : Function) (pointer : ℕ) (accepted : Accepted f) where
 
   -- a landing of a planned block
   module _ (t : ℕ) (n : BlockPlan) (planned-as : Paired t n (reachable f) (planned f pointer .0)) where
-    landing-of-all : (l : Block) → l ∈ blockLandings f pointer (sizeOf f) (slotNumber f pointer) t n
+    pub landing-of-all : (l : Block) → l ∈ blockLandings f pointer (sizeOf f) (slotNumber f pointer) t n
         → l ∈ allLandings f pointer (sizeOf f) (slotNumber f pointer)
     landing-of-all l m =
         ∈-concatZip (blockLandings f pointer (sizeOf f) (slotNumber f pointer)) (reachable f) (planned f pointer .0) t n planned-as m
@@ -150,7 +150,7 @@ module _ (f : Function) (pointer : ℕ) (accepted : Accepted f) where
       × (lay (blockAt f t) ≡ mainBlock f pointer (blockAt f t) (listedInstructions f t) n ∷ landingsOf t n)
 
   -- what stands in the rewritten function: a block of the file, by its plan or copied, or a landing
-  data Standing (b′ : Block) : Type 0 where
+  pub data Standing (b′ : Block) : Type 0 where
     main : (t : ℕ) (n : BlockPlan) → t < length (f .blocks) → LaidBy t n
         → b′ ≡ mainBlock f pointer (blockAt f t) (listedInstructions f t) n → Standing b′
     copied : (t : ℕ) → t < length (f .blocks) → T (not (has t (reachable f))) → b′ ≡ blockAt f t → Standing b′
@@ -176,7 +176,7 @@ module _ (f : Function) (pointer : ℕ) (accepted : Accepted f) where
       let alone = subst (_∈_ b′) (laid-copied f pointer (reachable f) (planned f pointer .0) b r) k in
       copied t (here-at .0) r (List·Memᴰ·eq-of-singleton alone ∙ sym (here-at .1)))
 
-  standing : (b′ : Block) → b′ ∈ rewritten f pointer .blocks → Standing b′
+  pub standing : (b′ : Block) → b′ ∈ rewritten f pointer .blocks → Standing b′
   unfolding rewritten
   standing b′ m =
       let from = ∈-concatMap-from lay (f .blocks) m in

@@ -1,16 +1,16 @@
 -- Which values are spilled: marked ones, and among them all that are live across a reachable safepoint.
 use Prim.Native.Nat.{ℕ, _<_, _≤_}
 use native.Mathlib.Omega.{arith}
-use mathlib.Core.Path.{_≡_, refl, sym, subst}
+use mathlib.Core.Path.{_≡_, refl, sym, ap, subst}
 use mathlib.Core.Bool.{Bool, true, false, cond}
 use mathlib.Core.Option.{Option, none, some}
 use mathlib.Core.List.{List, [], _∷_, _++_, map, Memᴰ·of-map}
 use lib.ListN.{length}
 use lib.Dec.{T}
-use Rattle.rules.specs.Lists.{any, has, orElse, keep, upFrom, members, NumberSet}
+use Rattle.rules.specs.Lists.{any, has, orElse, zipWith, upFrom, members, NumberSet}
 use Rattle.rules.specs.Tree.{Instruction, Function}
 use Rattle.rules.specs.Graph.{blockAt, isMarked, instructionsOf, valuesPassed, reachable}
-use Rattle.rules.specs.Liveness.{across, beforeAll, process, listsAmong, listsOf, lists, isSpilled}
+use Rattle.rules.specs.Liveness.{across, beforeAll, process, listsAmong, listsOf, listedInstructions, lists, isSpilled}
 use Rattle.lists.specs.Tests.{if-elim, chosen, is-true}
 use Rattle.lists.specs.Sets.{Within}
 use Rattle.lists.specs.Members.{_∈_, here, there, not-∈-nil, ∈-elim, has→∈, ∈→has, ∈-concatMap, ∈-concatMap-from}
@@ -98,3 +98,18 @@ module _ (f : Function) where
       any-intro (λ (l : Option (List ℕ)). has v (orElse [] l))
       (∈-concatMap (listsOf f) (∈-upFrom 0 (length (f .blocks)) b (omega arith) (omega (arith, inside))) stands)
       (∈→has (across-listed i (beforeAll f later out) (live-marked b later) v t))
+
+  -- a listed value is spilled
+  pub listed-spilled : (b : ℕ) → b < length (f .blocks) → (x : Instruction × Option (List ℕ)) → x ∈ listedInstructions f b
+      → (v : ℕ) → v ∈ orElse [] (x .1) → T (isSpilled f v)
+  unfolding isSpilled
+  listed-spilled b inside x m v k =
+      any-intro (λ (l : Option (List ℕ)). has v (orElse [] l))
+      (∈-concatMap (listsOf f) (∈-upFrom 0 (length (f .blocks)) b (omega arith) (omega (arith, inside)))
+      (second (instructionsOf (blockAt f b)) (listsOf f b) m))
+      (∈→has k)
+    where
+      second : (is : List Instruction) (ls : List (Option (List ℕ))) → x ∈ zipWith (λ i l. (i, l)) is ls → x .1 ∈ ls
+      second [] ls m = absurd (not-∈-nil m)
+      second (i ∷ is) [] m = absurd (not-∈-nil m)
+      second (i ∷ is) (l ∷ ls) m = ∈-elim (λ e. here (ap (λ (y : Instruction × Option (List ℕ)). y .1) e)) (λ n. there (second is ls n)) m
