@@ -218,3 +218,6 @@ module _ (f : Function) (accepted : Accepted f) where
 
     pub passed-in-file : (i : Instruction) → i ∈ instructionsOf (blockAt f b) → (v : ℕ) → v ∈ valuesPassed i → v < length (f .values)
     passed-in-file i m v k = operand-in-file i m v (Memᴰ·append-right (i .arguments) (Memᴰ·append-left (i .contexts) k))
+
+    pub context-in-file : (i : Instruction) → i ∈ instructionsOf (blockAt f b) → (v : ℕ) → v ∈ i .contexts → v < length (f .values)
+    context-in-file i m v k = operand-in-file i m v (Memᴰ·append-right (i .arguments) (Memᴰ·append-right (valuesPassed i) k))

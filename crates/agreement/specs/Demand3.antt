@@ -16,7 +16,7 @@ use Rattle.rules.specs.Services.{isAccepted, isUnchanged, rewritingAnswer}
 use Rattle.rules.specs.Demand3.{Dominated, finalFile, Demand3}
 use Rattle.lists.specs.Tests.{test-elim}
 use Rattle.lists.specs.Members.{_∈_, not-∈-nil}
-use Rattle.records.specs.Writing.{AllWritable, function-in-bytes}
+use Rattle.records.specs.Writing.{function-in-bytes}
 use Rattle.fixpoint.specs.Finding.{∈-keep, ∈-upFrom}
 use Rattle.fixpoint.specs.Rule.{marked-in-file}
 use Rattle.simulation.specs.Related.{Related}
@@ -27,6 +27,7 @@ use Rattle.agreement.specs.Following.{rewriting-related}
 use Rattle.agreement.specs.Unchanged.{unspilled-related}
 use Rattle.agreement.specs.Verdicts.{FileAccepted, file-accepted, tree-accepted}
 use Rattle.agreement.specs.FinalFile.{final-unchanged, final-rewritten}
+use Rattle.agreement.specs.WrittenFile.{rewritten-writable}
 
 -- an unchanged file has no spilled value
 none-spilled : (f : Function) → T (isUnchanged f) → (v : ℕ) → T (not (isSpilled f v))
@@ -41,20 +42,15 @@ none-spilled f u v =
     none [] u m = not-∈-nil m
     none (w ∷ vs) u m = u
 
--- what is to be known of slots, and of what is written
+-- WHAT IS ASKED OF SLOTS, of every accepted file in which every use is dominated.
 abbrev pub SlotsAsked : Type 0
 SlotsAsked = (s : List ℕ) (pointer n : ℕ) → FileAccepted s pointer n → Dominated (functionIn s) → SlotsApart (functionIn s) pointer
 
-abbrev pub WritableAsked : Type 0
-WritableAsked =
-    (s : List ℕ) (pointer n : ℕ) → IsBytes s → FileAccepted s pointer n
-    → AllWritable (functionRecords (rewritten (functionIn s) pointer))
-
--- an accepted file and what rewriting leaves of it are related
-final-related : SlotsAsked → WritableAsked → (s : List ℕ) (pointer n : ℕ) → IsBytes s
+-- An accepted file and what rewriting leaves of it are related.
+pub final-related : SlotsAsked → (s : List ℕ) (pointer n : ℕ) → IsBytes s
     → T (isAccepted (rewritingAnswer s pointer n .verdict)) → Dominated (functionIn s)
     → Related (functionIn s) (functionIn (finalFile s pointer n))
-final-related slots writable s pointer n isBytes accepted dominated =
+final-related slots s pointer n isBytes accepted dominated =
     let f = functionIn s in
     let file = file-accepted s pointer n accepted in
     let tree = tree-accepted s pointer n file in
@@ -64,8 +60,9 @@ final-related slots writable s pointer n isBytes accepted dominated =
     (unspilled-related f pointer tree dominated (none-spilled f u)))
     (λ u.
     subst (λ t. Related f (functionIn t)) (sym (final-rewritten s pointer n accepted file u))
-    (subst (Related f) (sym (function-in-bytes (rewritten f pointer) (writable s pointer n isBytes file)))
+    (subst (Related f) (sym (function-in-bytes (rewritten f pointer) (rewritten-writable s pointer n isBytes file)))
     (rewriting-related f pointer tree dominated (slots s pointer n file dominated))))
 
-pub demand3-by-slots : SlotsAsked → WritableAsked → Demand3
-demand3-by-slots slots writable = demand3-by-relation (final-related slots writable)
+-- So demand 3 holds.
+pub demand3-by-slots : SlotsAsked → Demand3
+demand3-by-slots slots = demand3-by-relation (final-related slots)

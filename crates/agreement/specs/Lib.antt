@@ -21,9 +21,11 @@ pub mod Following
 pub mod Unchanged
 pub mod Verdicts
 pub mod FinalFile
-pub mod Demand3
 pub mod SlotTables
 pub mod Words
 pub mod Totals
 pub mod Fine
 pub mod Writable
+pub mod WrittenBlocks
+pub mod WrittenFile
+pub mod Demand3

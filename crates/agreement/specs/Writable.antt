@@ -46,14 +46,14 @@ ascending-le : (lo hi : ℕ) (ls : List (ℕ × ℕ)) → Ascending lo hi ls →
 ascending-le lo hi [] a = a
 ascending-le lo hi (l ∷ ls) a = omega (arith, a .0, ascending-le (suc (suc (l .1))) hi ls (a .1))
 
-ascending-below : (lo hi : ℕ) (ls : List (ℕ × ℕ)) → Ascending lo hi ls → (l : ℕ × ℕ) → l ∈ ls → suc (suc (l .1)) ≤ hi
+pub ascending-below : (lo hi : ℕ) (ls : List (ℕ × ℕ)) → Ascending lo hi ls → (l : ℕ × ℕ) → l ∈ ls → suc (suc (l .1)) ≤ hi
 ascending-below lo hi [] a l m = absurd (not-∈-nil m)
 ascending-below lo hi (k ∷ ls) a l m =
     ∈-elim (λ e. subst (λ (x : ℕ × ℕ). suc (suc (x .1)) ≤ hi) (sym e) (ascending-le (suc (suc (k .1))) hi ls (a .1)))
     (ascending-below (suc (suc (k .1))) hi ls (a .1) l) m
 
 -- a rewritten argument is an argument, or loaded for one
-operand-from : (vs : List ℕ) (ns : List Made) (x : ℕ) → x ∈ zipWith operand vs ns
+pub operand-from : (vs : List ℕ) (ns : List Made) (x : ℕ) → x ∈ zipWith operand vs ns
     → (x ∈ vs) ⊎ ((l : ℕ × ℕ) × (l ∈ loaded (map passes.Value vs) ns) × (x ≡ suc (l .1)))
 operand-from [] ns x m = absurd (not-∈-nil m)
 operand-from (v ∷ vs) [] x m = absurd (not-∈-nil m)
@@ -64,7 +64,7 @@ operand-from (v ∷ vs) (some a ∷ ns) x m =
     (λ k. ⊎-elim (λ o. inl (there o)) (λ l. inr (l .0, there (l .1), l .2)) (operand-from vs ns x k)) m
 
 -- the words among an edge's arguments are some of them
-words-among : (xs : List EdgeArgument) (x : EdgeArgument) → x ∈ wordsAmong xs → x ∈ xs
+pub words-among : (xs : List EdgeArgument) (x : EdgeArgument) → x ∈ wordsAmong xs → x ∈ xs
 words-among [] x m = absurd (not-∈-nil m)
 words-among (passes.Value v ∷ xs) x m = there (words-among xs x m)
 words-among (passes.Returned k ∷ xs) x m = ∈-elim here (λ n. there (words-among xs x n)) m
@@ -72,11 +72,11 @@ words-among (passes.Exception k ∷ xs) x m = ∈-elim here (λ n. there (words-
 
 module _ (f : Function) (pointer : ℕ) (accepted : Accepted f) (small : SmallPlan f pointer) where
   -- a value of the file is a word
-  own-word : (v : ℕ) → v < length (f .values) → IsWord v
+  pub own-word : (v : ℕ) → v < length (f .values) → IsWord v
   own-word v l = small .numbers v (omega (arith, l, small .values))
 
   -- ITEMS
-  loads-fine : (lo hi : ℕ) (ls : List (ℕ × ℕ)) → Ascending lo hi ls → hi ≤ valueLimit f pointer
+  pub loads-fine : (lo hi : ℕ) (ls : List (ℕ × ℕ)) → Ascending lo hi ls → hi ≤ valueLimit f pointer
       → (x : Item) → x ∈ loadsOf (sizeOf f) (slotNumber f pointer) ls → FineItem x
   loads-fine lo hi [] a u x m = absurd (not-∈-nil m)
   loads-fine lo hi (l ∷ ls) a u x m =
@@ -86,7 +86,7 @@ module _ (f : Function) (pointer : ℕ) (accepted : Accepted f) (small : SmallPl
       (∈-elim (λ e. subst FineItem (sym e) (small .numbers (suc (l .1)) (omega (arith, below, u)), address, small .sizes (l .0)))
       (loads-fine (suc (suc (l .1))) hi ls (a .1) u x)) m
 
-  stores-fine : (vs : List ℕ) (ns : List Made) → Each (Defined f (valueLimit f pointer)) vs ns → ((v : ℕ) → v ∈ vs → v < length (f .values))
+  pub stores-fine : (vs : List ℕ) (ns : List Made) → Each (Defined f (valueLimit f pointer)) vs ns → ((v : ℕ) → v ∈ vs → v < length (f .values))
       → (x : Item) → x ∈ concatZip (storeItems (sizeOf f) (slotNumber f pointer)) vs ns → FineItem x
   stores-fine [] ns d inside x m = absurd (not-∈-nil m)
   stores-fine (v ∷ vs) [] d inside x m = absurd d
@@ -98,7 +98,7 @@ module _ (f : Function) (pointer : ℕ) (accepted : Accepted f) (small : SmallPl
       (stores-fine vs ns (d .1) (λ w k. inside w (there k)) x)) m
 
   -- OPERANDS of edges
-  passed-fine : (lo hi : ℕ) (xs : List EdgeArgument) (ns : List Made) → Numbered f false lo hi xs ns → hi ≤ valueLimit f pointer
+  pub passed-fine : (lo hi : ℕ) (xs : List EdgeArgument) (ns : List Made) → Numbered f false lo hi xs ns → hi ≤ valueLimit f pointer
       → ((x : EdgeArgument) → x ∈ xs → FineArgument x) → (y : EdgeArgument) → y ∈ zipWith edgeOperand xs ns → FineArgument y
   passed-fine lo hi [] ns h u own y m = absurd (not-∈-nil m)
   passed-fine lo hi (passes.Value v ∷ xs) [] h u own y m = absurd h
@@ -117,7 +117,7 @@ module _ (f : Function) (pointer : ℕ) (accepted : Accepted f) (small : SmallPl
       ∈-elim (λ e. subst FineArgument (sym e) (own (passes.Exception k) (here refl))) (passed-fine lo hi xs ns (h .1) u (λ x q. own x (there q)) y) m
   passed-fine lo hi (passes.Exception k ∷ xs) (some p ∷ ns) h u own y m = absurd (h .0)
 
-  landed-fine : (lo hi : ℕ) (xs : List EdgeArgument) (ns : List Made) → Numbered f true lo hi xs ns → hi ≤ valueLimit f pointer
+  pub landed-fine : (lo hi : ℕ) (xs : List EdgeArgument) (ns : List Made) → Numbered f true lo hi xs ns → hi ≤ valueLimit f pointer
       → ((x : EdgeArgument) → x ∈ xs → FineArgument x) → (y : EdgeArgument) → y ∈ zipWith landedArgument xs ns → FineArgument y
   landed-fine lo hi [] ns h u own y m = absurd (not-∈-nil m)
   landed-fine lo hi (passes.Value v ∷ xs) [] h u own y m = absurd h
@@ -140,7 +140,7 @@ module _ (f : Function) (pointer : ℕ) (accepted : Accepted f) (small : SmallPl
       ∈-elim (λ e. subst FineArgument (sym e) (small .numbers p (omega (arith, below, u))))
       (landed-fine (suc p) hi xs ns (h .2) u (λ x q. own x (there q)) y) m
 
-  parameters-fine : (lo hi : ℕ) (xs : List EdgeArgument) (ns : List Made) → Numbered f true lo hi xs ns → hi ≤ valueLimit f pointer
+  pub parameters-fine : (lo hi : ℕ) (xs : List EdgeArgument) (ns : List Made) → Numbered f true lo hi xs ns → hi ≤ valueLimit f pointer
       → AllWords (parametersOf xs ns)
   parameters-fine lo hi [] ns h u p m = absurd (not-∈-nil m)
   parameters-fine lo hi (passes.Value v ∷ xs) [] h u p m = absurd h
