@@ -1,15 +1,15 @@
 -- What holds of the tree of an accepted file: where its blocks stand, what its edges lead to, and where an edge may be.
-use Prim.Native.Nat.{ℕ, zero, suc, _+_, _≤_, _<_}
+use Prim.Native.Nat.{ℕ, zero, suc, _+_, _<_}
 use native.Mathlib.Omega.{arith}
 use mathlib.Core.Path.{_≡_, refl, sym, ap, subst, _∙_}
 use mathlib.Core.Bool.{Bool, true, false, not, _&&_, _||_, cond}
-use mathlib.Core.Option.{Option, none, some, Option·some-injective, Option·none-ne-some}
+use mathlib.Core.Option.{Option, some, Option·some-injective, Option·none-ne-some}
 use mathlib.Core.List.{List, [], _∷_, _++_, map, Memᴰ·append-left, Memᴰ·append-right, Memᴰ·map, Memᴰ·of-map}
 use lib.ListN.{length, getD}
 use lib.Dec.{T, T-not, ltb, ltb→lt, eqb, eqb→eq}
 use Rattle.rules.specs.Lists.{all, empty, concatMap, has}
-use Rattle.rules.specs.Tree.{Edge, Instruction, Item, instruction, Block, Function}
-use Rattle.rules.specs.Graph.{blockAt, sizeOf, instructionsOf, valuesPassed, edgesOut, successors}
+use Rattle.rules.specs.Tree.{Edge, Instruction, instruction, Block, Function}
+use Rattle.rules.specs.Graph.{blockAt, sizeOf, instructionsOf, valuesPassed, successors}
 use Rattle.rules.specs.Refusals.{numberedFrom, allInstructions, allEdges, definitions, uses, numbersInFile, endsOnce, fit}
 use Rattle.rules.specs.Refusals.{safepointTerminator, onlyValues, soundEdge, soundInstruction, sound}
 use Rattle.rules.specs.declared.EdgeArgument.{EdgeArgument}

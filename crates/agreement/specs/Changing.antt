@@ -1,25 +1,25 @@
 -- What a ghost knows behind stores, over a move, and where values get new words.
-use Prim.Native.Nat.{ℕ, suc, _≤_, _<_}
+use Prim.Native.Nat.{ℕ, _<_}
 use native.Mathlib.Omega.{arith}
 use mathlib.Core.Path.{_≡_, refl, sym, ap, ap₂, subst, _∙_}
 use mathlib.Core.Logic.{_≢_}
-use mathlib.Core.Bool.{Bool, true, false, not, _||_, cond}
-use mathlib.Core.Option.{Option, none, some}
-use mathlib.Core.List.{List, [], _∷_, _++_, map}
+use mathlib.Core.Bool.{Bool, true, false, not, cond}
+use mathlib.Core.Option.{none, some}
+use mathlib.Core.List.{List, [], _∷_, map}
 use lib.ListN.{length}
 use lib.Dec.{T, T-not, not-T, eqb, eqb→eq}
 use Rattle.rules.specs.Lists.{has, update, concatZip, NumberSet}
-use Rattle.rules.specs.Tree.{MapEntry, Instruction, Item, slotAddress, store, load, Function}
+use Rattle.rules.specs.Tree.{MapEntry, Instruction, Item, slotAddress, store, Function}
 use Rattle.rules.specs.Liveness.{isSpilled}
 use Rattle.rules.specs.Plan.{Made}
 use Rattle.rules.specs.Rewriting.{storeItems}
 use Rattle.lists.specs.Tests.{test-elim, if-elim, left-out, neqb→ne, or-elim}
-use Rattle.lists.specs.Members.{_∈_, here, there, not-∈-nil, ∈-elim, has→∈, ∈→has}
+use Rattle.lists.specs.Members.{_∈_, here, there}
 use Rattle.fixpoint.specs.Finding.{update-here, update-there}
-use Rattle.simulation.specs.Ghost.{Meaning, unknown, address, word, Ghost, setting, loadedThrough, storedThrough, past, stillAfter, defining}
+use Rattle.simulation.specs.Ghost.{Meaning, unknown, address, word, Ghost, storedThrough, past, stillAfter, defining}
 use Rattle.simulation.specs.Ghost.{same, overMove, moving}
-use Rattle.simulation.specs.Related.{Each, IsWord, IsAddress}
-use Rattle.agreement.specs.Entries.{Reads, pastAll, ReadsAll}
+use Rattle.simulation.specs.Related.{Each}
+use Rattle.agreement.specs.Entries.{pastAll, ReadsAll}
 use Rattle.agreement.specs.Plans.{New, Defined}
 use Rattle.agreement.specs.Keeping.{ne→neqb, setting-here, setting-there}
 

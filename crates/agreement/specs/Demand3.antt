@@ -1,15 +1,15 @@
 -- DEMAND 3, from what is asked of slots: the original and what rewriting leaves are seen to do the same.
 use Prim.Native.Nat.{ℕ}
-use mathlib.Core.Path.{sym, subst, _∙_}
+use mathlib.Core.Path.{sym, subst}
 use mathlib.Core.Bool.{not}
 use mathlib.Core.List.{List, [], _∷_}
 use lib.ListN.{length}
 use lib.Dec.{T, not-T}
 use native.Mathlib.Omega.{arith}
-use Rattle.rules.specs.Lists.{empty, upFrom, members}
+use Rattle.rules.specs.Lists.{empty, members}
 use Rattle.rules.specs.Tree.{Function}
 use Rattle.rules.specs.Records.{IsBytes}
-use Rattle.rules.specs.File.{functionRecords, functionIn}
+use Rattle.rules.specs.File.{functionIn}
 use Rattle.rules.specs.Liveness.{isSpilled}
 use Rattle.rules.specs.Rewriting.{rewritten}
 use Rattle.rules.specs.Services.{isAccepted, isUnchanged, rewritingAnswer}

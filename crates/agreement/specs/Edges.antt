@@ -9,8 +9,8 @@ use mathlib.Core.Option.{Option, none, some}
 use mathlib.Core.List.{List, [], _∷_, _++_, map}
 use lib.ListN.{length}
 use Rattle.rules.specs.Lists.{isNone, zipWith}
-use Rattle.rules.specs.Tree.{Edge, Item, jump, Block, Function}
-use Rattle.rules.specs.Graph.{sizeOf, valuesAmong}
+use Rattle.rules.specs.Tree.{Edge, jump, Block, Function}
+use Rattle.rules.specs.Graph.{sizeOf}
 use Rattle.rules.specs.Liveness.{listedInstructions}
 use Rattle.rules.specs.Plan.{Made, EdgePlan, InstructionPlan, BlockPlan}
 use Rattle.rules.specs.Rewriting.{wordsAmong, edgeTo, rewrittenEdge, landedArgument, landingOf, landings, slotNumber, rewritten}

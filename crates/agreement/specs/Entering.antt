@@ -3,7 +3,7 @@ use Prim.Native.Nat.{ℕ, _<_}
 use mathlib.Core.Path.{_≡_, subst}
 use mathlib.Core.Logic.{⊎-elim}
 use mathlib.Core.Bool.{not}
-use mathlib.Core.List.{List, [], _∷_, _++_, List·Memᴰ·append-cases}
+use mathlib.Core.List.{[], List·Memᴰ·append-cases}
 use lib.ListN.{length}
 use lib.Dec.{T, T-not}
 use Rattle.rules.specs.Lists.{has, concatMap, NumberSet}

@@ -1,11 +1,11 @@
 -- The file that rewriting leaves of one that it accepts: the file itself where no value is spilled, and else the bytes of the
 -- rewritten function.
-use Prim.Native.Nat.{ℕ, _+_, _-_, _*_, _/_, _%_, _≤_}
+use Prim.Native.Nat.{ℕ, _-_, _*_, _≤_}
 use native.Mathlib.Nat.{div-add-mod'}
 use native.Mathlib.Omega.{arith}
-use mathlib.Core.Path.{_≡_, refl, sym, ap, subst, _∙_}
-use mathlib.Core.Bool.{Bool, true, false, not, _&&_, _||_, cond}
-use mathlib.Core.List.{List, [], _∷_, _++_}
+use mathlib.Core.Path.{_≡_, ap, _∙_}
+use mathlib.Core.Bool.{true, false, not, _&&_, _||_, cond}
+use mathlib.Core.List.{List, []}
 use lib.ListN.{length, take, replicate, length-append}
 use lib.Seq.{take-length, take-append-seam}
 use lib.Dec.{T, leb, le→leb, eqb}
@@ -15,7 +15,7 @@ use Rattle.rules.specs.Records.{recordCount, bytes}
 use Rattle.rules.specs.File.{functionRecords, functionIn}
 use Rattle.rules.specs.Refusals.{refusalNumber}
 use Rattle.rules.specs.Rewriting.{rewritten}
-use Rattle.rules.specs.Services.{isAccepted, lent, needed, isUnchanged, recordsOf, rewritingVerdict, rewritingAnswer, rewritingOutput, finalRecords}
+use Rattle.rules.specs.Services.{isAccepted, isUnchanged, recordsOf, rewritingVerdict, rewritingAnswer, rewritingOutput, finalRecords}
 use Rattle.rules.specs.Demand3.{finalFile}
 use Rattle.rules.specs.declared.RewritingAnswer.{RewritingAnswer}
 use Rattle.lists.specs.Tests.{is-true, is-false, and-intro, or-left, chosen, left-out}

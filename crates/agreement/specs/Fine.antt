@@ -1,14 +1,12 @@
 -- A tree whose numbers are words can be written: its records are in the table, and their words have 32 bits.
-use Prim.Native.Nat.{ℕ, _+_, _*_, _≤_, _<_}
+use Prim.Native.Nat.{ℕ, _+_, _*_}
 use native.Mathlib.Omega.{arith}
-use mathlib.Core.Path.{_≡_, refl}
-use mathlib.Core.Bool.{Bool, true, false, _&&_}
+use mathlib.Core.Path.{refl}
 use mathlib.Core.List.{List, [], _∷_, _++_, map}
-use lib.ListN.{length}
 use lib.Dec.{T, leb, leb→le, le→leb}
 use Rattle.rules.specs.Lists.{has, concatMap}
 use Rattle.rules.specs.Tree.{Value, Edge, MapEntry, Instruction, Item, instruction, slotAddress, store, load, jump, Block, Function}
-use Rattle.rules.specs.Records.{bit, slotSizes, log2, encode}
+use Rattle.rules.specs.Records.{bit, slotSizes, encode}
 use Rattle.rules.specs.File.{edgeRecords, itemRecords, blockRecords, functionRecords}
 use Rattle.rules.specs.declared.EdgeArgument.{EdgeArgument}
 use Rattle.rules.specs.declared.EdgeArgument.the-variants as passes

@@ -1,36 +1,28 @@
 -- Rewriting makes related trees. Every reachable block of the rewritten function, entered where everything live is known, reads
 -- what it may and leaves so into its successors; so the function is related to the file.
-use Prim.Native.Nat.{ℕ, _<_}
+use Prim.Native.Nat.{ℕ}
 use mathlib.Core.Path.{_≡_, refl, sym, ap, subst, _∙_}
-use mathlib.Core.Logic.{⊎-elim}
-use mathlib.Core.Bool.{not}
 use mathlib.Core.Option.{Option}
-use mathlib.Core.List.{List, [], _∷_, _++_, map, append-assoc, List·Memᴰ·append-cases}
-use lib.ListN.{length}
-use lib.Dec.{T, T-not}
-use Rattle.rules.specs.Lists.{has, orElse, zipWith, concatMap, concatZip, NumberSet, removing}
+use mathlib.Core.List.{List, [], _∷_, _++_, map, append-assoc}
+use Rattle.rules.specs.Lists.{zipWith, concatZip, NumberSet}
 use Rattle.rules.specs.Tree.{Instruction, Item, instruction, Block, Function}
 use Rattle.rules.specs.Graph.{blockAt, sizeOf, isMarked, instructionsOf, reachable}
-use Rattle.rules.specs.Liveness.{before, beforeAll, through, process, listsAmong, isSpilled, listedInstructions}
-use Rattle.rules.specs.Plan.{Made, InstructionPlan, BlockPlan, planned}
+use Rattle.rules.specs.Liveness.{beforeAll, process, listsAmong, listedInstructions}
+use Rattle.rules.specs.Plan.{InstructionPlan, BlockPlan, planned}
 use Rattle.rules.specs.Rewriting.{storeItems, instructionItems, slotNumber, rewritten}
-use Rattle.rules.specs.Demand3.{PathTo, start, resultsOf, definedIn, Dominated}
-use Rattle.lists.specs.Tests.{and-intro}
-use Rattle.lists.specs.Members.{_∈_, here, there, not-∈-nil, ∈→has}
-use Rattle.walks.specs.Reachable.{path→reachable}
-use Rattle.walks.specs.InFile.{path-in-file}
+use Rattle.rules.specs.Demand3.{PathTo, Dominated}
+use Rattle.lists.specs.Members.{here, there, ∈→has}
 use Rattle.fixpoint.specs.Rule.{marked-in-file}
-use Rattle.fixpoint.specs.Answer.{process-through-outs}
-use Rattle.simulation.specs.Ghost.{word, Ghost, nothingKnown, moving, defining}
-use Rattle.simulation.specs.Related.{Each, Paired, numbers, IsBlock, Related}
-use Rattle.agreement.specs.Entries.{pastAll, each-paired, Follows, follows-behind, Kept, entries-related}
+use Rattle.simulation.specs.Ghost.{Ghost, moving, defining}
+use Rattle.simulation.specs.Related.{Each, Paired, IsBlock, Related}
+use Rattle.agreement.specs.Entries.{pastAll, each-paired, Follows, follows-behind, entries-related}
 use Rattle.agreement.specs.Plans.{valueLimit, InstructionNumbered, BlockNumbered}
-use Rattle.agreement.specs.Items.{loadsOf, items-in-order}
+use Rattle.agreement.specs.Items.{items-in-order}
 use Rattle.agreement.specs.Accepted.{Accepted, is-block-at, block-in-file, below-number, parameter-in-file, result-in-file}
 use Rattle.agreement.specs.Layout.{mainBlock}
 use Rattle.agreement.specs.Rewritten.{LaidBy, blocks-numbered, rewritten-laid, rewritten-first, found-main}
 use Rattle.agreement.specs.Spilled.{live-marked, lists-reachable}
-use Rattle.agreement.specs.Changing.{Stored, LeftStored, stores-left, defining-new, defining-own, defining-slot}
+use Rattle.agreement.specs.Changing.{Stored, LeftStored, stores-left, defining-new}
 use Rattle.agreement.specs.Points.{SlotsApart, Point, Entered, definedBefore, after-behind}
 use Rattle.agreement.specs.Spots.{Spot, liveAfter, liveBefore, listHere, definedHere, definedBehind, spot-stands, spot-reachable}
 use Rattle.agreement.specs.Spots.{spot-inside, Behind}

@@ -1,9 +1,9 @@
 -- How planning grows a plan: values and blocks are only added, at most as many as the operands, definitions and edges ask for,
 -- and what each single step keeps is kept by all.
-use Prim.Native.Nat.{ℕ, suc, _+_, _≤_}
+use Prim.Native.Nat.{ℕ, _+_, _≤_}
 use native.Mathlib.Omega.{arith}
 use mathlib.Core.Path.{_≡_, refl}
-use mathlib.Core.Bool.{Bool, true, false, not, cond}
+use mathlib.Core.Bool.{Bool, true, false, cond}
 use mathlib.Core.Option.{Option, none, some}
 use mathlib.Core.List.{List, [], _∷_, map}
 use lib.ListN.{length}
@@ -13,8 +13,8 @@ use Rattle.rules.specs.Tree.{Value, Edge, Instruction, Function}
 use Rattle.rules.specs.Graph.{blockAt, sizeOf, valuesAmong, reachable}
 use Rattle.rules.specs.Liveness.{isSpilled, process, listedInstructions}
 use Rattle.rules.specs.Slots.{noSlots, freeSlot}
-use Rattle.rules.specs.Plan.{Plan, Made, EdgePlan, Planning, _>>=_, pure, forEach, forEachBackward, newValue, newBlock, changeSlots}
-use Rattle.rules.specs.Plan.{planSlot, planStore, planDefinition, planLoad, planUse, planEdgeUse, planEdge, planLanded, planLanding}
+use Rattle.rules.specs.Plan.{Plan, EdgePlan, Planning, pure, forEach, forEachBackward, newValue, newBlock, changeSlots}
+use Rattle.rules.specs.Plan.{planSlot, planStore, planDefinition, planLoad, planUse, planEdgeUse, planEdge, planLanding}
 use Rattle.rules.specs.Plan.{planSafepointEdge, planInstruction, planBlock, planned}
 use Rattle.rules.specs.declared.EdgeArgument.{EdgeArgument}
 use Rattle.rules.specs.declared.EdgeArgument.the-variants as passes

@@ -8,7 +8,7 @@ use mathlib.Core.List.{List, [], _∷_, _++_, map, append-assoc}
 use lib.ListN.{length}
 use lib.Dec.{T}
 use Rattle.rules.specs.Lists.{all, zipWith, concatZip, orElse, isNone}
-use Rattle.rules.specs.Tree.{Edge, Instruction, Item, instruction, slotAddress, store, load, jump, Function}
+use Rattle.rules.specs.Tree.{Edge, Instruction, Item, instruction, slotAddress, load, jump, Function}
 use Rattle.rules.specs.Plan.{Made, EdgePlan, InstructionPlan}
 use Rattle.rules.specs.Rewriting.{rewrittenEdge, storeItems, loadItems, edgeLoadItems, edgeLoads, landingOf}
 use Rattle.rules.specs.Rewriting.{rewrittenInstruction, instructionItems, landedArgument}

@@ -3,21 +3,14 @@ use Prim.Native.Nat.{ℕ, suc, _≤_, _<_}
 use native.Mathlib.Omega.{arith}
 use mathlib.Core.Path.{_≡_, refl, sym, ap, subst, _∙_}
 use mathlib.Core.Logic.{_≢_}
-use mathlib.Core.Bool.{Bool, true, false, not, cond}
-use mathlib.Core.Option.{Option, none, some}
-use mathlib.Core.List.{List, [], _∷_, _++_, map}
-use lib.Dec.{T, T-not, not-T, eqb, eqb→eq}
-use Rattle.rules.specs.Lists.{has, update, concatZip, NumberSet}
-use Rattle.rules.specs.Tree.{MapEntry, Instruction, Item, slotAddress, store, load}
-use Rattle.rules.specs.Plan.{Made}
-use Rattle.rules.specs.Rewriting.{storeItems}
-use Rattle.lists.specs.Tests.{test-elim, if-elim, neqb→ne, is-true, is-false}
-use Rattle.lists.specs.Members.{_∈_, here, there, not-∈-nil, ∈-elim, has→∈, ∈→has}
+use mathlib.Core.Bool.{not}
+use mathlib.Core.List.{List, [], _∷_}
+use lib.Dec.{T, not-T, eqb, eqb→eq}
+use Rattle.rules.specs.Tree.{slotAddress, load}
+use Rattle.lists.specs.Members.{_∈_, here, there, not-∈-nil, ∈-elim}
 use Rattle.fixpoint.specs.Finding.{update-here, update-there}
-use Rattle.simulation.specs.Ghost.{Meaning, unknown, address, word, Ghost, setting, loadedThrough, storedThrough, past, stillAfter, defining}
-use Rattle.simulation.specs.Ghost.{same, overMove, moving}
-use Rattle.simulation.specs.Related.{Each, IsWord, IsAddress}
-use Rattle.agreement.specs.Entries.{Reads, pastAll, ReadsAll}
+use Rattle.simulation.specs.Ghost.{Meaning, address, word, Ghost, setting, loadedThrough, past}
+use Rattle.agreement.specs.Entries.{pastAll, ReadsAll}
 use Rattle.agreement.specs.Plans.{Ascending}
 use Rattle.agreement.specs.Items.{loadsOf}
 

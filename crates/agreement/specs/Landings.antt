@@ -1,23 +1,21 @@
 -- The landings of a function have numbers of their own: none is a block's of the file, and no two landings share one.
-use Prim.Native.Nat.{ℕ, suc, _+_, _≤_, _<_}
+use Prim.Native.Nat.{ℕ, suc, _≤_, _<_}
 use native.Mathlib.Omega.{arith}
-use mathlib.Core.Path.{_≡_, refl, sym, ap, subst, _∙_}
+use mathlib.Core.Path.{_≡_, sym, ap, _∙_}
 use mathlib.Core.Logic.{_⊎_, inl, inr, ⊎-elim}
 use mathlib.Core.Bool.{Bool, true, false, cond}
 use mathlib.Core.Option.{Option, none, some}
 use mathlib.Core.List.{List, [], _∷_, _++_, map, List·Memᴰ·append-cases, List·Memᴰ·eq-of-singleton}
 use lib.ListN.{length}
-use Rattle.rules.specs.Lists.{any, keep, zipWith, concatZip, members}
+use Rattle.rules.specs.Lists.{any, keep, concatZip, members}
 use Rattle.rules.specs.Tree.{Edge, Instruction, Block, Function}
-use Rattle.rules.specs.Graph.{blockAt, sizeOf, valuesAmong, reachable}
+use Rattle.rules.specs.Graph.{blockAt, valuesAmong, reachable}
 use Rattle.rules.specs.Liveness.{isSpilled, process, listedInstructions}
 use Rattle.rules.specs.Slots.{noSlots}
-use Rattle.rules.specs.Plan.{Plan, Made, EdgePlan, InstructionPlan, BlockPlan, Planning, _>>=_, pure, forEach, forEachBackward}
-use Rattle.rules.specs.Plan.{planSlot, planStore, planDefinition, planLoad, planUse, planEdgeUse, planEdge, planLanded, planLanding}
+use Rattle.rules.specs.Plan.{Plan, EdgePlan, InstructionPlan, BlockPlan, Planning, pure, forEach, forEachBackward}
+use Rattle.rules.specs.Plan.{planSlot, planDefinition, planUse, planEdge, planLanding}
 use Rattle.rules.specs.Plan.{planSafepointEdge, planInstruction, planBlock, planned}
 use Rattle.rules.specs.Rewriting.{landingOf, landings}
-use Rattle.rules.specs.declared.EdgeArgument.{EdgeArgument}
-use Rattle.rules.specs.declared.EdgeArgument.the-variants as passes
 use Rattle.lists.specs.Members.{_∈_, not-∈-nil}
 use Rattle.agreement.specs.Growing.{nothing-kept, uses-cost, definitions-cost, slots-cost, landed-costs, edge-costs}
 

@@ -1,31 +1,24 @@
 -- How the rewritten function is laid out: its blocks are the file's, with added items, and landings behind them; and under a
 -- block's number, and a landing's, it is found.
-use Prim.Native.Nat.{ℕ, suc, _≤_, _<_}
+use Prim.Native.Nat.{ℕ, suc}
 use native.Mathlib.Omega.{arith}
 use mathlib.Core.Path.{_≡_, refl, sym, ap, subst, _∙_}
 use mathlib.Core.Logic.{_≢_, ⊎-elim}
 use mathlib.Core.Bool.{Bool, true, false, not}
-use mathlib.Core.Option.{Option, none, some}
-use mathlib.Core.List.{List, [], _∷_, _++_, map, Memᴰ·append-left, Memᴰ·append-right, List·Memᴰ·append-cases, List·Memᴰ·eq-of-singleton, Memᴰ·map}
-use lib.ListN.{length, getD}
+use mathlib.Core.Option.{Option, none}
+use mathlib.Core.List.{List, [], _∷_, _++_, map, Memᴰ·append-left, Memᴰ·append-right, List·Memᴰ·append-cases}
+use lib.ListN.{length}
 use lib.Dec.{T, T-not, not-T, eqb, eqb→eq}
-use Rattle.rules.specs.Lists.{has, concatMap, zipWith, concatZip, NumberSet}
-use Rattle.rules.specs.Tree.{Edge, Instruction, Item, instruction, Block, Function}
+use Rattle.rules.specs.Lists.{has, zipWith, concatZip, NumberSet}
+use Rattle.rules.specs.Tree.{Instruction, Block, Function}
 use Rattle.rules.specs.Graph.{blockAt, sizeOf, instructionsOf, reachable}
 use Rattle.rules.specs.Liveness.{process, listsAmong, listsOf, listedInstructions}
-use Rattle.rules.specs.Plan.{Made, EdgePlan, InstructionPlan, BlockPlan, planned}
-use Rattle.rules.specs.Rewriting.{landingOf, landings, storeItems, instructionItems, rewrittenBlock, slotNumber, laid, rewritten}
-use Rattle.lists.specs.Tests.{test-elim, if-elim, neqb→ne, eqb-swap, left-out}
-use Rattle.lists.specs.Members.{_∈_, here, there, not-∈-nil, ∈-elim, has→∈, ∈→has, ∈-concatMap, ∈-concatMap-from}
-use Rattle.lists.specs.Maps.{map-map}
-use Rattle.walks.specs.InFile.{reachable-in-file}
-use Rattle.simulation.specs.Related.{Each, Paired, numbers, found, IsBlock, at, crossing, Shape, refilled, Laid, Lands}
-use Rattle.agreement.specs.Entries.{each-paired}
+use Rattle.rules.specs.Plan.{BlockPlan}
+use Rattle.rules.specs.Rewriting.{storeItems, instructionItems, rewrittenBlock, slotNumber, laid}
+use Rattle.lists.specs.Tests.{if-elim, neqb→ne, eqb-swap, left-out}
+use Rattle.lists.specs.Members.{_∈_, here, there, not-∈-nil, ∈-elim}
+use Rattle.simulation.specs.Related.{Each, Paired, refilled}
 use Rattle.agreement.specs.Numbers.{neither}
-use Rattle.agreement.specs.Plans.{InstructionNumbered, BlockNumbered, planned-numbered}
-use Rattle.agreement.specs.Landings.{Between, instructionLandings, blockLandings, allLandings, landings-between}
-use Rattle.agreement.specs.Items.{instructions-shape, block-shape, landing-shape, copied-shape}
-use Rattle.agreement.specs.Accepted.{Accepted, found-member, block-by-number, block-number, block-in-file, number-below, edge-fits}
 
 -- LISTS TAKEN TOGETHER
 module _ {A B C : Type 0} (g : A → B → List C) where

@@ -1,16 +1,16 @@
 -- Where every use is dominated by its definition, what is live at a point is defined on every path there; so nothing is live
 -- where block 0 is entered.
 use Prim.Native.Nat.{ℕ}
-use mathlib.Core.Path.{_≡_, refl, sym, ap, subst, _∙_}
-use mathlib.Core.Logic.{_⊎_, inl, inr, ⊎-elim}
-use mathlib.Core.Bool.{Bool, not}
+use mathlib.Core.Path.{_≡_, refl, sym, subst, _∙_}
+use mathlib.Core.Logic.{⊎-elim}
+use mathlib.Core.Bool.{not}
 use mathlib.Core.List.{List, [], _∷_, _++_, append-assoc, append-nil, Memᴰ·append-left, Memᴰ·append-right, List·Memᴰ·append-cases}
 use lib.Dec.{T, T-not}
 use Rattle.rules.specs.Lists.{keep, has, concatMap, NumberSet}
 use Rattle.rules.specs.Tree.{Instruction, Function}
 use Rattle.rules.specs.Graph.{blockAt, isMarked, instructionsOf, valuesPassed}
 use Rattle.rules.specs.Liveness.{across, beforeAll, through, LiveOut, LiveIn, successor, rule, process}
-use Rattle.rules.specs.Demand3.{PathTo, start, onward, resultsOf, definedIn, Dominated}
+use Rattle.rules.specs.Demand3.{PathTo, start, onward, definedIn, Dominated}
 use Rattle.lists.specs.Tests.{and-left, and-right, or-elim}
 use Rattle.lists.specs.Members.{_∈_, not-∈-nil, has→∈, ∈→has}
 use Rattle.walks.specs.Reachable.{zero-reachable}

@@ -1,15 +1,15 @@
 -- The numbers that planning gives to operands: for each spilled one an address and the value loaded behind it, in a landing
 -- also one for each word. They ascend, so no two are one; and they are none of the file's values.
-use Prim.Native.Nat.{ℕ, suc, _+_, _≤_, _<_}
+use Prim.Native.Nat.{ℕ, suc, _+_, _≤_}
 use native.Mathlib.Omega.{arith}
 use mathlib.Core.Path.{_≡_, refl, sym, ap, subst, _∙_}
 use mathlib.Core.Bool.{Bool, true, false, not, _||_, cond}
-use mathlib.Core.Option.{Option, none, some}
+use mathlib.Core.Option.{none, some}
 use mathlib.Core.List.{List, [], _∷_, _++_, map}
 use lib.ListN.{length, length-append}
 use lib.Dec.{T}
 use Rattle.rules.specs.Lists.{any, zipWith}
-use Rattle.rules.specs.Tree.{Value, Edge, Function}
+use Rattle.rules.specs.Tree.{Value, Function}
 use Rattle.rules.specs.Graph.{sizeOf, valuesAmong}
 use Rattle.rules.specs.Liveness.{isSpilled}
 use Rattle.rules.specs.Plan.{Plan, Made, Planning, _>>=_, pure, forEach, newValue, planLoad, planUse, planEdgeUse, planLanded}

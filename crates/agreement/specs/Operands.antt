@@ -3,10 +3,9 @@
 use Prim.Native.Nat.{ℕ, suc, _≤_, _<_}
 use native.Mathlib.Omega.{arith}
 use mathlib.Core.Path.{_≡_, refl, sym, ap, subst, _∙_}
-use mathlib.Core.Logic.{_≢_}
 use mathlib.Core.Bool.{Bool, true, false, not}
-use mathlib.Core.Option.{Option, none, some}
-use mathlib.Core.List.{List, [], _∷_, _++_, map}
+use mathlib.Core.Option.{none, some}
+use mathlib.Core.List.{List, [], _∷_, map}
 use lib.Dec.{T}
 use Rattle.rules.specs.Lists.{zipWith, concatZip}
 use Rattle.rules.specs.Tree.{Function}
@@ -17,7 +16,7 @@ use Rattle.rules.specs.Rewriting.{operand, edgeOperand, wordsAmong, landingPara
 use Rattle.rules.specs.declared.EdgeArgument.{EdgeArgument}
 use Rattle.rules.specs.declared.EdgeArgument.the-variants as passes
 use Rattle.lists.specs.Members.{_∈_, here, there, not-∈-nil, ∈-elim}
-use Rattle.simulation.specs.Ghost.{Meaning, word, returned, exception, Ghost, setting, passing, jumping, meant, binding}
+use Rattle.simulation.specs.Ghost.{word, returned, exception, Ghost, setting, passing, jumping, meant, binding}
 use Rattle.simulation.specs.Related.{Each}
 use Rattle.agreement.specs.Numbers.{Numbered}
 use Rattle.agreement.specs.Plans.{loaded, numbered-ascending}

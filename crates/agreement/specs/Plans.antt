@@ -1,6 +1,6 @@
 -- What planning leaves: the numbers of every reachable block's definitions, operands and edges are new, and those that are
 -- loaded before one instruction ascend.
-use Prim.Native.Nat.{ℕ, suc, _+_, _≤_, _<_}
+use Prim.Native.Nat.{ℕ, suc, _≤_, _<_}
 use native.Mathlib.Omega.{arith}
 use mathlib.Core.Path.{_≡_, refl, sym, ap, subst, _∙_}
 use mathlib.Core.Bool.{Bool, true, false, not, cond}
@@ -8,19 +8,19 @@ use mathlib.Core.Option.{Option, none, some}
 use mathlib.Core.List.{List, [], _∷_, _++_, map}
 use lib.ListN.{length}
 use lib.Dec.{T, T-not}
-use Rattle.rules.specs.Lists.{any, keep, zipWith, concatZip, members, isNone}
+use Rattle.rules.specs.Lists.{any, keep, concatZip, members, isNone}
 use Rattle.rules.specs.Tree.{Value, Edge, Instruction, Function}
-use Rattle.rules.specs.Graph.{blockAt, sizeOf, valuesAmong, instructionsOf, reachable}
-use Rattle.rules.specs.Liveness.{isSpilled, process, listsOf, listedInstructions}
+use Rattle.rules.specs.Graph.{blockAt, valuesAmong, reachable}
+use Rattle.rules.specs.Liveness.{isSpilled, process, listedInstructions}
 use Rattle.rules.specs.Slots.{noSlots}
-use Rattle.rules.specs.Plan.{Plan, Made, EdgePlan, InstructionPlan, BlockPlan, Planning, _>>=_, pure, forEach, forEachBackward}
-use Rattle.rules.specs.Plan.{newBlock, planSlot, planStore, planDefinition, planUse, planEdgeUse, planEdge, planLanding, planSafepointEdge}
+use Rattle.rules.specs.Plan.{Plan, Made, EdgePlan, InstructionPlan, BlockPlan, Planning, pure, forEach, forEachBackward}
+use Rattle.rules.specs.Plan.{newBlock, planSlot, planStore, planDefinition, planUse, planEdge, planLanding, planSafepointEdge}
 use Rattle.rules.specs.Plan.{planInstruction, planBlock, planned}
 use Rattle.rules.specs.declared.EdgeArgument.{EdgeArgument}
 use Rattle.rules.specs.declared.EdgeArgument.the-variants as passes
-use Rattle.lists.specs.Members.{_∈_, here, there, not-∈-nil, ∈-elim}
+use Rattle.lists.specs.Members.{_∈_, here, there}
 use Rattle.simulation.specs.Related.{Each}
-use Rattle.agreement.specs.Numbers.{neither, valueCount, one-more, Numbered, numbered-grows, arguments-numbered, uses-numbered}
+use Rattle.agreement.specs.Numbers.{neither, valueCount, one-more, Numbered, arguments-numbered, uses-numbered}
 use Rattle.agreement.specs.Numbers.{landed-numbered, unspilled-numbered}
 use Rattle.agreement.specs.Growing.{nothing-kept, slots-cost, definition-costs, uses-cost, edge-costs, safepoint-edge-costs}
 use Rattle.agreement.specs.Growing.{instruction-costs, block-costs}

@@ -1,9 +1,8 @@
 -- What holds at every point of a path through the rewritten function, and what is asked of slots for it to hold.
 use Prim.Native.Nat.{ℕ, _<_}
-use mathlib.Core.Path.{_≡_, refl, sym, ap, subst, _∙_}
+use mathlib.Core.Path.{_≡_, ap, subst, _∙_}
 use mathlib.Core.Logic.{_⊎_, inl, inr, _≢_, ⊎-elim}
-use mathlib.Core.Bool.{Bool, not, _||_}
-use mathlib.Core.Option.{Option}
+use mathlib.Core.Bool.{not}
 use mathlib.Core.List.{List, [], _∷_, _++_, Memᴰ·append-left, Memᴰ·append-right, List·Memᴰ·append-cases}
 use lib.ListN.{length}
 use lib.Dec.{T}
@@ -11,7 +10,7 @@ use Rattle.rules.specs.Lists.{keep, has, concatMap, NumberSet, adding}
 use Rattle.rules.specs.Tree.{Instruction, Function}
 use Rattle.rules.specs.Graph.{blockAt, isMarked, instructionsOf, valuesPassed, reachable}
 use Rattle.rules.specs.Liveness.{across, before, beforeAll, process, isSpilled, listedInstructions}
-use Rattle.rules.specs.Plan.{InstructionPlan, BlockPlan, planned}
+use Rattle.rules.specs.Plan.{BlockPlan, planned}
 use Rattle.rules.specs.Rewriting.{slotNumber}
 use Rattle.rules.specs.Demand3.{PathTo, resultsOf, definedIn}
 use Rattle.lists.specs.Tests.{and-intro, or-left, or-right}

@@ -3,29 +3,28 @@
 use Prim.Native.Nat.{ℕ, _≤_, _<_}
 use native.Mathlib.Omega.{arith}
 use mathlib.Core.Path.{_≡_, refl, sym, ap, subst, _∙_}
-use mathlib.Core.Logic.{⊎-elim}
 use mathlib.Core.Bool.{not}
 use mathlib.Core.Option.{Option, none, some}
-use mathlib.Core.List.{List, [], _∷_, _++_, map, List·Memᴰ·append-cases, List·Memᴰ·eq-of-singleton, Memᴰ·map}
+use mathlib.Core.List.{List, [], _∷_, _++_, map, List·Memᴰ·eq-of-singleton, Memᴰ·map}
 use lib.ListN.{length, getD}
 use lib.Dec.{T, T-not, not-T, eqb}
 use Rattle.rules.specs.Lists.{has, concatMap, concatZip}
-use Rattle.rules.specs.Tree.{Edge, Instruction, Item, instruction, Block, Function}
+use Rattle.rules.specs.Tree.{Edge, Instruction, instruction, Block, Function}
 use Rattle.rules.specs.Graph.{blockAt, sizeOf, instructionsOf, reachable}
 use Rattle.rules.specs.Liveness.{listedInstructions}
-use Rattle.rules.specs.Plan.{EdgePlan, InstructionPlan, BlockPlan, planned}
-use Rattle.rules.specs.Rewriting.{landingOf, landings, instructionItems, rewrittenBlock, slotNumber, laid, rewritten}
+use Rattle.rules.specs.Plan.{BlockPlan, planned}
+use Rattle.rules.specs.Rewriting.{landings, instructionItems, rewrittenBlock, slotNumber, laid, rewritten}
 use Rattle.lists.specs.Tests.{test-elim, if-elim}
 use Rattle.lists.specs.Members.{_∈_, here, there, not-∈-nil, ∈-elim, has→∈, ∈→has, ∈-concatMap, ∈-concatMap-from}
 use Rattle.lists.specs.Maps.{map-map}
 use Rattle.walks.specs.InFile.{reachable-in-file}
-use Rattle.simulation.specs.Related.{Each, Paired, numbers, found, IsBlock, at, crossing, Shape, refilled, Laid, Lands}
+use Rattle.simulation.specs.Related.{Each, Paired, numbers, IsBlock, at, crossing, Shape, Laid, Lands}
 use Rattle.agreement.specs.Entries.{each-paired}
 use Rattle.agreement.specs.Plans.{valueLimit, BlockNumbered, planned-numbered}
-use Rattle.agreement.specs.Landings.{Between, instructionLandings, blockLandings, allLandings, landings-between}
+use Rattle.agreement.specs.Landings.{instructionLandings, blockLandings, allLandings, landings-between}
 use Rattle.agreement.specs.Items.{instructions-shape, block-shape, landing-shape, copied-shape}
 use Rattle.agreement.specs.Accepted.{Accepted, found-member, block-by-number, block-number, block-in-file, number-below, edge-fits}
-use Rattle.agreement.specs.Layout.{∈-concatZip-from, ∈-concatZip, paired-first, listed-firsts, mainBlock, laid-planned, laid-copied}
+use Rattle.agreement.specs.Layout.{∈-concatZip-from, ∈-concatZip, listed-firsts, mainBlock, laid-planned, laid-copied}
 
 -- landings in front of blocks that are laid like others
 landings-laid : {original : List ℕ} {bs bs′ : List Block} (ls : List Block)

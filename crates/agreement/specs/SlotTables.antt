@@ -2,23 +2,21 @@
 -- values.
 use Prim.Native.Nat.{ℕ, suc, _+_, _≤_, _<_}
 use native.Mathlib.Omega.{arith}
-use mathlib.Core.Path.{_≡_, refl, sym, ap, subst, _∙_}
+use mathlib.Core.Path.{_≡_, refl, sym, subst}
 use mathlib.Core.Logic.{⊎-elim}
-use mathlib.Core.Bool.{Bool, true, false, not, cond}
+use mathlib.Core.Bool.{not}
 use mathlib.Core.Option.{Option, none, some, Option·some-injective, Option·none-ne-some}
 use mathlib.Core.List.{List, [], _∷_, _++_, List·Memᴰ·append-cases, List·Memᴰ·eq-of-singleton}
 use lib.ListN.{length, length-append}
-use lib.Dec.{T, T-not, eqb, eqb→eq}
-use Rattle.rules.specs.Lists.{has, isNone, update, NumberSet, nothing}
+use lib.Dec.{T}
+use Rattle.rules.specs.Lists.{has, isNone, update, NumberSet}
 use Rattle.rules.specs.Tree.{Value, Function}
 use Rattle.rules.specs.Records.{slotSizes}
 use Rattle.rules.specs.Graph.{blockAt, sizeOf}
 use Rattle.rules.specs.Liveness.{isSpilled}
 use Rattle.rules.specs.Slots.{StackSlots, noSlots, slotFrom, giveSlot, freeSlot}
 use Rattle.rules.specs.Plan.{Plan}
-use Rattle.lists.specs.Tests.{neqb→ne}
-use Rattle.lists.specs.Sets.{Within}
-use Rattle.lists.specs.Lack.{lack, one, lack-mono, lack-drop, lack-one-le}
+use Rattle.lists.specs.Lack.{lack, one, lack-drop, lack-one-le}
 use Rattle.lists.specs.Members.{_∈_, here, there, not-∈-nil, ∈-elim}
 use Rattle.fixpoint.specs.Finding.{update-elim, update-here}
 use Rattle.agreement.specs.Growing.{StepsKeep}

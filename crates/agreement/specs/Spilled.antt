@@ -1,5 +1,5 @@
 -- Which values are spilled: marked ones, and among them all that are live across a reachable safepoint.
-use Prim.Native.Nat.{ℕ, _<_, _≤_}
+use Prim.Native.Nat.{ℕ, _<_}
 use native.Mathlib.Omega.{arith}
 use mathlib.Core.Path.{_≡_, refl, sym, ap, subst}
 use mathlib.Core.Bool.{Bool, true, false, cond}
@@ -7,11 +7,11 @@ use mathlib.Core.Option.{Option, none, some}
 use mathlib.Core.List.{List, [], _∷_, _++_, map, Memᴰ·of-map}
 use lib.ListN.{length}
 use lib.Dec.{T}
-use Rattle.rules.specs.Lists.{any, has, orElse, zipWith, upFrom, members, NumberSet}
+use Rattle.rules.specs.Lists.{has, orElse, zipWith, upFrom, members, NumberSet}
 use Rattle.rules.specs.Tree.{Instruction, Function}
 use Rattle.rules.specs.Graph.{blockAt, isMarked, instructionsOf, valuesPassed, reachable}
 use Rattle.rules.specs.Liveness.{across, beforeAll, process, listsAmong, listsOf, listedInstructions, lists, isSpilled}
-use Rattle.lists.specs.Tests.{if-elim, chosen, is-true}
+use Rattle.lists.specs.Tests.{if-elim, chosen}
 use Rattle.lists.specs.Sets.{Within}
 use Rattle.lists.specs.Members.{_∈_, here, there, not-∈-nil, ∈-elim, has→∈, ∈→has, ∈-concatMap, ∈-concatMap-from}
 use Rattle.fixpoint.specs.Finding.{any-intro, any-elim, ∈-keep, keep-passes, ∈-upFrom}

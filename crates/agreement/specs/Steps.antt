@@ -1,18 +1,18 @@
 -- Over one instruction of a path: its loads, what it reads, and what holds behind it.
-use Prim.Native.Nat.{ℕ, suc, _<_}
+use Prim.Native.Nat.{ℕ, suc}
 use native.Mathlib.Omega.{arith}
-use mathlib.Core.Path.{_≡_, sym, ap, subst, _∙_}
+use mathlib.Core.Path.{_≡_, ap, subst, _∙_}
 use mathlib.Core.Logic.{⊎-elim}
 use mathlib.Core.Bool.{Bool, true, false, not, cond}
 use mathlib.Core.Option.{Option, none, some}
-use mathlib.Core.List.{List, [], _∷_, _++_, map, Memᴰ·append-left, Memᴰ·append-right, List·Memᴰ·append-cases, Memᴰ·map}
+use mathlib.Core.List.{List, [], map, Memᴰ·append-left, Memᴰ·append-right, List·Memᴰ·append-cases, Memᴰ·map}
 use lib.ListN.{length}
 use lib.Dec.{T, T-not}
 use Rattle.rules.specs.Lists.{any, has, isNone, orElse, members, concatZip}
 use Rattle.rules.specs.Tree.{Edge, MapEntry, Instruction, Item, Function}
 use Rattle.rules.specs.Graph.{sizeOf, isMarked, valuesAmong}
 use Rattle.rules.specs.Liveness.{across, isSpilled}
-use Rattle.rules.specs.Plan.{Made, EdgePlan, InstructionPlan}
+use Rattle.rules.specs.Plan.{Made, InstructionPlan}
 use Rattle.rules.specs.Rewriting.{mapEntry, rewrittenInstruction, slotNumber}
 use Rattle.rules.specs.Demand3.{Dominated}
 use Rattle.rules.specs.declared.EdgeArgument.the-variants as passes

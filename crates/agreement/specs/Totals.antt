@@ -1,16 +1,16 @@
 -- How large a plan can become: a file has few records, so the values and blocks that planning adds are far fewer than a word
 -- can count.
-use Prim.Native.Nat.{ℕ, suc, _+_, _*_, _≤_, _<_}
+use Prim.Native.Nat.{ℕ, suc, _+_, _*_, _≤_}
 use native.Mathlib.Omega.{arith}
-use mathlib.Core.Path.{_≡_, refl, sym, ap, subst, _∙_}
+use mathlib.Core.Path.{_≡_, refl, ap}
 use mathlib.Core.Bool.{Bool, true, false, not, _||_}
 use mathlib.Core.Option.{Option}
-use mathlib.Core.List.{List, [], _∷_, _++_, map}
+use mathlib.Core.List.{List, [], _∷_, map}
 use lib.ListN.{length, length-append, length-map}
 use lib.Dec.{T, T-not, not-T, ltb, nltb→le, eqb}
 use Rattle.rules.specs.Limits.{largestRecords, largestValues, largestBlocks, largestInstructions, largestEdges}
 use Rattle.rules.specs.Lists.{count, concatMap}
-use Rattle.rules.specs.Tree.{Value, Edge, Instruction, Block, Function}
+use Rattle.rules.specs.Tree.{Edge, Instruction, Block, Function}
 use Rattle.rules.specs.Records.{encode, kind, recordAt, recordCount, records, firstWords}
 use Rattle.rules.specs.File.{Section, cut, ordered, ofKind, blockOf, function, functionIn}
 use Rattle.rules.specs.Graph.{blockAt, instructionsOf, reachable}

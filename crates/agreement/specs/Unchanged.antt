@@ -1,6 +1,6 @@
 -- A file in which no value is spilled is related to itself: it is its own rewritten function, though nothing moves in it.
-use Prim.Native.Nat.{ℕ, _<_}
-use mathlib.Core.Path.{_≡_, refl, sym, ap, subst, _∙_}
+use Prim.Native.Nat.{ℕ}
+use mathlib.Core.Path.{_≡_, refl, sym, subst, _∙_}
 use mathlib.Core.Logic.{inl}
 use mathlib.Core.Bool.{not}
 use mathlib.Core.List.{List, [], _∷_, _++_, map, append-assoc}
@@ -14,7 +14,7 @@ use Rattle.rules.specs.declared.EdgeArgument.the-variants as passes
 use Rattle.lists.specs.Members.{_∈_, here, there}
 use Rattle.simulation.specs.Ghost.{word, Ghost, defining, stepping, passing, meant}
 use Rattle.simulation.specs.Related.{Each, numbers, IsBlock, at, Shape, Laid, Related}
-use Rattle.agreement.specs.Entries.{Goes, Follows, Kept, entries-related}
+use Rattle.agreement.specs.Entries.{Goes, Follows, entries-related}
 use Rattle.agreement.specs.Items.{copied-shape}
 use Rattle.agreement.specs.Accepted.{Accepted, is-block-at, block-in-file, below-number}
 use Rattle.agreement.specs.Points.{Point, Entered, definedBefore, after-behind}

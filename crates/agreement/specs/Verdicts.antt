@@ -1,13 +1,13 @@
 -- What it says of a file that rewriting accepts it: no refusal applies, and its tree is as the laws of rewriting ask.
-use Prim.Native.Nat.{ℕ, _*_, _%_, _<_}
+use Prim.Native.Nat.{ℕ, _*_, _%_}
 use mathlib.Core.Path.{_≡_, refl, sym, ap, subst, _∙_}
 use mathlib.Core.Bool.{Bool, true, false, not, _&&_, _||_}
 use mathlib.Core.List.{List, [], _∷_, _++_, map, Memᴰ·of-map}
 use lib.ListN.{length}
-use lib.Dec.{T, T-not, not-T, ltb, eqb, eqb→eq}
+use lib.Dec.{T, T-not, ltb, eqb, eqb→eq}
 use Rattle.rules.specs.Limits.{recordBytes}
 use Rattle.rules.specs.Lists.{all}
-use Rattle.rules.specs.Tree.{Instruction, instruction, Block, Function}
+use Rattle.rules.specs.Tree.{instruction, Block}
 use Rattle.rules.specs.Records.{kind, records}
 use Rattle.rules.specs.File.{Section, cut, ordered, instructionOf, itemOf, opensItem, blockOf, function, functionIn}
 use Rattle.rules.specs.Graph.{instructionsOf}

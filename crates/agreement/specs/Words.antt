@@ -1,17 +1,17 @@
 -- What a tree is read from are words of 32 bits: its tags and indices fit, and its values have a value's size.
-use Prim.Native.Nat.{ℕ, zero, suc, _+_, _*_, _≤_, _<_}
+use Prim.Native.Nat.{ℕ, zero, suc, _+_, _≤_, _<_}
 use native.Mathlib.Omega.{arith}
 use mathlib.Core.Path.{_≡_, refl, sym, ap, subst, _∙_}
-use mathlib.Core.Bool.{Bool, true, false, not, _&&_, _||_, cond}
-use mathlib.Core.List.{List, [], _∷_, _++_, map, Memᴰ·append-right, Memᴰ·of-map}
-use lib.ListN.{length, getD, drop}
+use mathlib.Core.Bool.{Bool, true, false, not, _&&_, cond}
+use mathlib.Core.List.{List, [], _∷_, map, Memᴰ·append-right, Memᴰ·of-map}
+use lib.ListN.{getD, drop}
 use lib.Dec.{T, leb, leb→le, ltb, ltb→lt, eqb}
 use Rattle.rules.specs.Limits.{recordBytes}
-use Rattle.rules.specs.Lists.{all, has, concatMap}
-use Rattle.rules.specs.Tree.{Value, Edge, Instruction, Block, Function}
+use Rattle.rules.specs.Lists.{all, has}
+use Rattle.rules.specs.Tree.{Value, Edge, Instruction, Block}
 use Rattle.rules.specs.Records.{IsBytes, wordAt, bit, slotSizes, log2, isSafepoint, isTerminator, edgeArgument, decode, encode, kind}
 use Rattle.rules.specs.Records.{recordAt, recordCount, eachFrom, records}
-use Rattle.rules.specs.File.{Section, cut, ordered, ofKind, instructionOf, opensItem, blockOf, function, functionIn}
+use Rattle.rules.specs.File.{Section, cut, ordered, ofKind, instructionOf, opensItem, function, functionIn}
 use Rattle.rules.specs.Graph.{instructionsOf}
 use Rattle.rules.specs.Refusals.{allEdges}
 use Rattle.rules.specs.declared.EdgeArgument.{EdgeArgument}

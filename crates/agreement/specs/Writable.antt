@@ -1,35 +1,29 @@
 -- The rewritten function can be written: its new numbers are below counts that a word has room for.
-use Prim.Native.Nat.{ℕ, suc, _+_, _≤_, _<_}
+use Prim.Native.Nat.{ℕ, suc, _≤_, _<_}
 use native.Mathlib.Omega.{arith}
-use mathlib.Core.Path.{_≡_, refl, sym, ap, subst, _∙_}
+use mathlib.Core.Path.{_≡_, refl, sym, subst}
 use mathlib.Core.Logic.{_⊎_, inl, inr, ⊎-elim}
-use mathlib.Core.Bool.{Bool, true, false, not}
-use mathlib.Core.Option.{Option, none, some}
-use mathlib.Core.List.{List, [], _∷_, _++_, map, append-nil, List·Memᴰ·append-cases, List·Memᴰ·eq-of-singleton, Memᴰ·append-left, Memᴰ·of-map}
+use mathlib.Core.Bool.{true, false}
+use mathlib.Core.Option.{none, some}
+use mathlib.Core.List.{List, [], _∷_, map}
 use lib.ListN.{length}
-use lib.Dec.{T}
-use Rattle.rules.specs.Lists.{isNone, orElse, zipWith, concatZip}
-use Rattle.rules.specs.Tree.{Edge, MapEntry, Instruction, Item, instruction, slotAddress, store, load, jump, Block, Function}
-use Rattle.rules.specs.Graph.{blockAt, sizeOf, instructionsOf, reachable}
-use Rattle.rules.specs.Liveness.{listedInstructions}
-use Rattle.rules.specs.Plan.{Made, EdgePlan, InstructionPlan, BlockPlan, planned}
-use Rattle.rules.specs.Rewriting.{operand, edgeOperand, wordsAmong, edgeTo, rewrittenEdge, landedArgument, storeItems, landingOf, landings, mapEntry}
-use Rattle.rules.specs.Rewriting.{rewrittenInstruction, instructionItems, slotNumber, rewritten}
+use Rattle.rules.specs.Lists.{zipWith, concatZip}
+use Rattle.rules.specs.Tree.{Instruction, Item, Function}
+use Rattle.rules.specs.Graph.{blockAt, sizeOf, instructionsOf}
+use Rattle.rules.specs.Plan.{Made, planned}
+use Rattle.rules.specs.Rewriting.{operand, edgeOperand, wordsAmong, landedArgument, storeItems}
+use Rattle.rules.specs.Rewriting.{slotNumber}
 use Rattle.rules.specs.declared.EdgeArgument.{EdgeArgument}
 use Rattle.rules.specs.declared.EdgeArgument.the-variants as passes
 use Rattle.lists.specs.Members.{_∈_, here, there, not-∈-nil, ∈-elim}
 use Rattle.records.specs.Writing.{IsWord}
-use Rattle.simulation.specs.Related.{Each, Paired}
-use Rattle.agreement.specs.Entries.{each-paired}
+use Rattle.simulation.specs.Related.{Each}
 use Rattle.agreement.specs.Numbers.{Numbered, numbered-grows}
-use Rattle.agreement.specs.Plans.{loaded, edgeLoaded, loadedBefore, Ascending, numbered-ascending, valueLimit, Defined, EdgeNumbered, InstructionNumbered, BlockNumbered}
-use Rattle.agreement.specs.Landings.{Between, instructionLandings, landings-between}
-use Rattle.agreement.specs.Items.{loadsOf, operands-loads, inOrder, items-in-order}
-use Rattle.agreement.specs.Accepted.{Accepted, block-number, block-in-file, edge-in-file, parameter-in-file, argument-in-file, result-in-file}
-use Rattle.agreement.specs.Layout.{∈-concatZip, ∈-concatZip-from, paired-first, mainBlock}
-use Rattle.agreement.specs.Rewritten.{in-file, listed-instruction, blocks-numbered, landingsOf, LaidBy, Standing, main, copied, landing, standing, landing-of-all}
+use Rattle.agreement.specs.Plans.{loaded, Ascending, valueLimit, Defined}
+use Rattle.agreement.specs.Items.{loadsOf}
+use Rattle.agreement.specs.Accepted.{Accepted}
 use Rattle.agreement.specs.Operands.{parametersOf}
-use Rattle.agreement.specs.Fine.{AllWords, FineArgument, FineEdge, FineInstruction, FineItem, FineBlock}
+use Rattle.agreement.specs.Fine.{AllWords, FineArgument, FineInstruction, FineItem}
 
 -- what is small in a plan
 pub record SmallPlan (f : Function) (pointer : ℕ) : Type 0 where

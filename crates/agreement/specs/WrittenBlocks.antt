@@ -1,22 +1,22 @@
 -- Every block of the rewritten function has words for numbers: a rewritten one, a copied one, and a landing.
-use Prim.Native.Nat.{ℕ, suc, _≤_, _<_}
+use Prim.Native.Nat.{ℕ, suc, _<_}
 use native.Mathlib.Omega.{arith}
-use mathlib.Core.Path.{_≡_, refl, sym, ap, subst, _∙_}
+use mathlib.Core.Path.{refl, sym, ap, subst, _∙_}
 use mathlib.Core.Logic.{⊎-elim}
 use mathlib.Core.Bool.{true, not}
 use mathlib.Core.Option.{Option, none, some}
-use mathlib.Core.List.{List, [], _∷_, _++_, map, append-nil, List·Memᴰ·append-cases, List·Memᴰ·eq-of-singleton, Memᴰ·append-left, Memᴰ·of-map}
+use mathlib.Core.List.{List, [], _∷_, append-nil, List·Memᴰ·append-cases, List·Memᴰ·eq-of-singleton, Memᴰ·append-left, Memᴰ·of-map}
 use lib.ListN.{length}
 use Rattle.rules.specs.Lists.{isNone, orElse, zipWith, concatZip}
-use Rattle.rules.specs.Tree.{Edge, MapEntry, Instruction, Item, instruction, jump, Block, Function}
+use Rattle.rules.specs.Tree.{Edge, MapEntry, Instruction, Item, instruction, Block, Function}
 use Rattle.rules.specs.Graph.{blockAt, sizeOf, instructionsOf, reachable}
 use Rattle.rules.specs.Liveness.{listedInstructions}
 use Rattle.rules.specs.Plan.{Made, EdgePlan, InstructionPlan, BlockPlan, planned}
-use Rattle.rules.specs.Rewriting.{edgeTo, rewrittenEdge, landedArgument, storeItems, edgeLoadItems, landingOf, landings, mapEntry}
+use Rattle.rules.specs.Rewriting.{edgeTo, rewrittenEdge, storeItems, edgeLoadItems, landingOf, landings, mapEntry}
 use Rattle.rules.specs.Rewriting.{rewrittenInstruction, instructionItems, slotNumber, rewritten}
 use Rattle.lists.specs.Members.{_∈_, here, there, not-∈-nil, ∈-elim}
 use Rattle.records.specs.Writing.{IsWord}
-use Rattle.simulation.specs.Related.{Each, Paired}
+use Rattle.simulation.specs.Related.{Paired}
 use Rattle.agreement.specs.Entries.{each-paired}
 use Rattle.agreement.specs.Plans.{loaded, edgeLoaded, loadedBefore, numbered-ascending, valueLimit, EdgeNumbered, InstructionNumbered, BlockNumbered}
 use Rattle.agreement.specs.Landings.{instructionLandings, landings-between}

@@ -1,18 +1,18 @@
 -- The rewritten function of an accepted file can be written, so it is read back from its bytes.
-use Prim.Native.Nat.{ℕ, suc, _+_, _≤_, _<_}
+use Prim.Native.Nat.{ℕ, _≤_, _<_}
 use native.Mathlib.Omega.{arith}
-use mathlib.Core.Path.{_≡_, refl, sym, ap, subst, _∙_}
-use mathlib.Core.Bool.{Bool, true, false, not, _||_}
+use mathlib.Core.Path.{_≡_, refl, sym, subst}
+use mathlib.Core.Bool.{false, not}
 use mathlib.Core.Option.{Option, none, some}
-use mathlib.Core.List.{List, [], _∷_}
-use lib.ListN.{length, getD, List·getD-eq-default}
+use mathlib.Core.List.{List, []}
+use lib.ListN.{length, List·getD-eq-default}
 use lib.Dec.{T, T-not, ltb, ltb→lt, nltb→le, eqb, eqb→eq}
-use Rattle.rules.specs.Lists.{any, has, orElse, members}
-use Rattle.rules.specs.Tree.{Value, Edge, Instruction, Block, Function}
+use Rattle.rules.specs.Lists.{has, orElse}
+use Rattle.rules.specs.Tree.{Value, Instruction, Block, Function}
 use Rattle.rules.specs.Records.{IsBytes, slotSizes}
 use Rattle.rules.specs.File.{functionRecords, functionIn}
 use Rattle.rules.specs.Graph.{blockAt, valueAt, sizeOf, instructionsOf, reachable}
-use Rattle.rules.specs.Liveness.{isSpilled, listedInstructions}
+use Rattle.rules.specs.Liveness.{isSpilled}
 use Rattle.rules.specs.Slots.{noSlots}
 use Rattle.rules.specs.Plan.{Plan, planned}
 use Rattle.rules.specs.Rewriting.{slotNumber, rewritten}
@@ -24,8 +24,7 @@ use Rattle.walks.specs.InFile.{reachable-in-file}
 use Rattle.fixpoint.specs.Sums.{sum}
 use Rattle.fixpoint.specs.Finding.{any-intro, ∈-keep, ∈-upFrom}
 use Rattle.fixpoint.specs.Rule.{marked-in-file}
-use Rattle.agreement.specs.Growing.{Grown, StepsKeep, blockCost, planned-costs}
-use Rattle.agreement.specs.Plans.{valueLimit}
+use Rattle.agreement.specs.Growing.{Grown, blockCost, planned-costs}
 use Rattle.agreement.specs.Accepted.{Accepted, block-in-file, edge-in-file, parameter-in-file, argument-in-file, result-in-file, context-in-file}
 use Rattle.agreement.specs.Spilled.{spilled-marked, listed-spilled}
 use Rattle.agreement.specs.SlotTables.{ValueSize, PlanGood, none-good, steps-keep-good}
