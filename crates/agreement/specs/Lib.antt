@@ -19,13 +19,3 @@ pub mod LiveDefined
 pub mod Entering
 pub mod Following
 pub mod Unchanged
-pub mod Verdicts
-pub mod FinalFile
-pub mod SlotTables
-pub mod Words
-pub mod Totals
-pub mod Fine
-pub mod Writable
-pub mod WrittenBlocks
-pub mod WrittenFile
-pub mod Demand3

@@ -26,8 +26,8 @@ use Rattle.records.specs.Values.{valueOf}
 use Rattle.records.specs.InOrder.{whole, cut-joins}
 use Rattle.records.specs.Parts.{isInstruction, inBlock, inBody, body-allowed, block-instructions, block-instructions-are, argument, edgeArguments-in-order}
 use Rattle.records.specs.Kinds.{kinds-weaken, ofKind-none}
-use Rattle.agreement.specs.SlotTables.{ValueSize}
-use Rattle.agreement.specs.Verdicts.{block-section}
+use Rattle.demand3.specs.SlotTables.{ValueSize}
+use Rattle.demand3.specs.Verdicts.{block-section}
 
 -- BYTES
 byte-small : (s : List ℕ) → IsBytes s → (i : ℕ) → getD s i 0 < 256

@@ -20,7 +20,7 @@ use Rattle.rules.specs.Demand3.{finalFile}
 use Rattle.rules.specs.declared.RewritingAnswer.{RewritingAnswer}
 use Rattle.lists.specs.Tests.{is-true, is-false, and-intro, or-left, chosen, left-out}
 use Rattle.records.specs.Writing.{bytes-length}
-use Rattle.agreement.specs.Verdicts.{FileAccepted}
+use Rattle.demand3.specs.Verdicts.{FileAccepted}
 
 -- an accepted answer's final records are a part of the buffer chosen, where that is long enough
 final-taken : (answer : RewritingAnswer) (input output buffer : List ℕ) → T (isAccepted (answer .verdict))

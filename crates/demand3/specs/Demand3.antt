@@ -21,13 +21,13 @@ use Rattle.fixpoint.specs.Finding.{∈-keep, ∈-upFrom}
 use Rattle.fixpoint.specs.Rule.{marked-in-file}
 use Rattle.simulation.specs.Related.{Related}
 use Rattle.simulation.specs.Simulation.{demand3-by-relation}
 use Rattle.agreement.specs.Spilled.{spilled-marked}
 use Rattle.agreement.specs.Points.{SlotsApart}
 use Rattle.agreement.specs.Following.{rewriting-related}
 use Rattle.agreement.specs.Unchanged.{unspilled-related}
-use Rattle.agreement.specs.Verdicts.{FileAccepted, file-accepted, tree-accepted}
-use Rattle.agreement.specs.FinalFile.{final-unchanged, final-rewritten}
-use Rattle.agreement.specs.WrittenFile.{rewritten-writable}
+use Rattle.demand3.specs.Verdicts.{FileAccepted, file-accepted, tree-accepted}
+use Rattle.demand3.specs.FinalFile.{final-unchanged, final-rewritten}
+use Rattle.demand3.specs.WrittenFile.{rewritten-writable}
 
 -- an unchanged file has no spilled value
 none-spilled : (f : Function) → T (isUnchanged f) → (v : ℕ) → T (not (isSpilled f v))

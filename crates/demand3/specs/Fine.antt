@@ -15,8 +15,8 @@ use Rattle.rules.specs.declared.Record.the-variants as record′
 use Rattle.lists.specs.Tests.{and-intro, passes-at}
 use Rattle.lists.specs.Members.{_∈_, here, there}
 use Rattle.records.specs.Writing.{IsWord, inTable, Writable, AllWritable}
-use Rattle.agreement.specs.SlotTables.{ValueSize}
-use Rattle.agreement.specs.Words.{bit-small, log-small}
+use Rattle.demand3.specs.SlotTables.{ValueSize}
+use Rattle.demand3.specs.Words.{bit-small, log-small}
 
 -- LISTS that can be written
 writable-append : (xs ys : List Record) → AllWritable xs → AllWritable ys → AllWritable (xs ++ ys)

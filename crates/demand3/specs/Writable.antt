@@ -18,12 +18,12 @@ use Rattle.rules.specs.declared.EdgeArgument.the-variants as passes
 use Rattle.lists.specs.Members.{_∈_, here, there, not-∈-nil, ∈-elim}
 use Rattle.records.specs.Writing.{IsWord}
 use Rattle.simulation.specs.Related.{Each}
 use Rattle.agreement.specs.Numbers.{Numbered, numbered-grows}
 use Rattle.agreement.specs.Plans.{loaded, Ascending, valueLimit, Defined}
 use Rattle.agreement.specs.Items.{loadsOf}
 use Rattle.agreement.specs.Accepted.{Accepted}
 use Rattle.agreement.specs.Operands.{parametersOf}
-use Rattle.agreement.specs.Fine.{AllWords, FineArgument, FineInstruction, FineItem}
+use Rattle.demand3.specs.Fine.{AllWords, FineArgument, FineInstruction, FineItem}
 
 -- what is small in a plan
 pub record SmallPlan (f : Function) (pointer : ℕ) : Type 0 where

@@ -17,15 +17,15 @@ use Rattle.rules.specs.Rewriting.{rewrittenInstruction, instructionItems, slotN
 use Rattle.lists.specs.Members.{_∈_, here, there, not-∈-nil, ∈-elim}
 use Rattle.records.specs.Writing.{IsWord}
 use Rattle.simulation.specs.Related.{Paired}
 use Rattle.agreement.specs.Entries.{each-paired}
 use Rattle.agreement.specs.Plans.{loaded, edgeLoaded, loadedBefore, numbered-ascending, valueLimit, EdgeNumbered, InstructionNumbered, BlockNumbered}
 use Rattle.agreement.specs.Landings.{instructionLandings, landings-between}
 use Rattle.agreement.specs.Items.{loadsOf, operands-loads, items-in-order}
 use Rattle.agreement.specs.Accepted.{Accepted, block-number, block-in-file, edge-in-file, parameter-in-file, result-in-file}
 use Rattle.agreement.specs.Layout.{∈-concatZip, ∈-concatZip-from, paired-first, mainBlock}
 use Rattle.agreement.specs.Rewritten.{in-file, listed-instruction, blocks-numbered, landingsOf, Standing, main, copied, landing, standing, landing-of-all}
-use Rattle.agreement.specs.Fine.{FineEdge, FineInstruction, FineItem, FineBlock}
-use Rattle.agreement.specs.Writable.{SmallPlan, ascending-below, operand-from, words-among, own-word, loads-fine, stores-fine, passed-fine, landed-fine, parameters-fine}
+use Rattle.demand3.specs.Fine.{FineEdge, FineInstruction, FineItem, FineBlock}
+use Rattle.demand3.specs.Writable.{SmallPlan, ascending-below, operand-from, words-among, own-word, loads-fine, stores-fine, passed-fine, landed-fine, parameters-fine}
 
 module _ (f : Function) (pointer : ℕ) (accepted : Accepted f) (small : SmallPlan f pointer) where
   abbrev limit : ℕ

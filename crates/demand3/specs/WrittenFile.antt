@@ -24,16 +24,16 @@ use Rattle.walks.specs.InFile.{reachable-in-file}
 use Rattle.fixpoint.specs.Sums.{sum}
 use Rattle.fixpoint.specs.Finding.{any-intro, ∈-keep, ∈-upFrom}
 use Rattle.fixpoint.specs.Rule.{marked-in-file}
 use Rattle.agreement.specs.Growing.{Grown, blockCost, planned-costs}
 use Rattle.agreement.specs.Accepted.{Accepted, block-in-file, edge-in-file, parameter-in-file, argument-in-file, result-in-file, context-in-file}
 use Rattle.agreement.specs.Spilled.{spilled-marked, listed-spilled}
-use Rattle.agreement.specs.SlotTables.{ValueSize, PlanGood, none-good, steps-keep-good}
-use Rattle.agreement.specs.Verdicts.{FileAccepted, tree-accepted}
-use Rattle.agreement.specs.Words.{value-sized, tag-small, argument-small, entries-none}
-use Rattle.agreement.specs.Totals.{values-few, blocks-few, cost-few}
-use Rattle.agreement.specs.Fine.{FineInstruction, FineFunction, function-writable}
-use Rattle.agreement.specs.Writable.{SmallPlan}
-use Rattle.agreement.specs.WrittenBlocks.{blocks-fine}
+use Rattle.demand3.specs.SlotTables.{ValueSize, PlanGood, none-good, steps-keep-good}
+use Rattle.demand3.specs.Verdicts.{FileAccepted, tree-accepted}
+use Rattle.demand3.specs.Words.{value-sized, tag-small, argument-small, entries-none}
+use Rattle.demand3.specs.Totals.{values-few, blocks-few, cost-few}
+use Rattle.demand3.specs.Fine.{FineInstruction, FineFunction, function-writable}
+use Rattle.demand3.specs.Writable.{SmallPlan}
+use Rattle.demand3.specs.WrittenBlocks.{blocks-fine}
 
 module _ (s : List ℕ) (pointer n : ℕ) (isBytes : IsBytes s) (file : FileAccepted s pointer n) where
   abbrev f : Function
