@@ -21,6 +21,7 @@ use Rattle.simulation.specs.Related.{numbers, found, IsBlock}
 use Rattle.simulation.specs.Blocks.{instructionsIn}
 use Rattle.agreement.specs.Plans.{Fits}
 
+-- a tree that reading gives of a file which no refusal from 4 to 7 applies to
 pub record Accepted (f : Function) : Type 0 where
   pub some-block : 0 < length (f .blocks)
   pub numbered : T (numberedFrom 0 (f .blocks))
@@ -113,9 +114,11 @@ module _ (f : Function) (accepted : Accepted f) where
   pub block-number : (t : ℕ) → t < length (f .blocks) → blockAt f t .number ≡ t
   block-number t l = let at = numbered-getD 0 (f .blocks) nowhere (accepted .numbered) t l in omega (arith, at)
 
+  -- block t stands in the file
   pub block-in-file : (t : ℕ) → t < length (f .blocks) → blockAt f t ∈ f .blocks
   block-in-file t l = getD-∈ (f .blocks) t nowhere l
 
+  -- what is found under a number is the block of that number
   pub is-block-at : (t : ℕ) (b : Block) → IsBlock f t b → b ≡ blockAt f t
   is-block-at t b k =
       let at = found-member 0 t (f .blocks) (k .0, b) (k .1) in
@@ -127,6 +130,7 @@ module _ (f : Function) (accepted : Accepted f) where
       let at = Memᴰ·of-map (λ (b : Block). b .number) (f .blocks) (has→∈ (numbers (f .blocks)) h) in
       subst (λ n. n < length (f .blocks)) (at .2) (block-by-number (at .0) (at .1) .0)
 
+  -- and each number below their count is one of theirs
   pub below-number : (t : ℕ) → t < length (f .blocks) → T (has t (numbers (f .blocks)))
   below-number t l =
       subst (λ n. T (has n (numbers (f .blocks)))) (block-number t l) (∈→has (Memᴰ·map (λ (b : Block). b .number) (block-in-file t l)))
@@ -151,23 +155,27 @@ module _ (f : Function) (accepted : Accepted f) where
 
   -- INSTRUCTIONS of a block of the file
   module _ (b : ℕ) (inside : b < length (f .blocks)) where
+    -- it is sound
     pub instruction-sound : (i : Instruction) → i ∈ instructionsOf (blockAt f b) → T (soundInstruction f i)
     instruction-sound i m =
         all→∈ (soundInstruction f) (allInstructions f)
         (and-right (all (λ b. endsOnce (instructionsOf b)) (f .blocks)) (all (soundInstruction f) (allInstructions f)) (accepted .is-sound))
         (∈-concatMap instructionsOf (block-in-file b inside) m)
 
+    -- its edges are sound
     pub edge-sound : (i : Instruction) → i ∈ instructionsOf (blockAt f b) → (e : Edge) → e ∈ i .edges → T (soundEdge f i e)
     edge-sound i m e k =
         all→∈ (soundEdge f i) (i .edges)
         (and-right (ends i && (safepointTerminator i || empty (i .contexts))) (all (soundEdge f i) (i .edges)) (instruction-sound i m)) k
 
+    -- so they fit their targets
     pub edge-fits : (i : Instruction) → i ∈ instructionsOf (blockAt f b) → (e : Edge) → e ∈ i .edges → Fits f e
     edge-fits i m e k =
         let fits = fit f (e .arguments) (blockAt f (e .target) .parameters) in
         fit-length f (e .arguments) (blockAt f (e .target) .parameters)
         (and-right (not (eqb (e .target) 0) && (safepointTerminator i || onlyValues (e .arguments))) fits (edge-sound i m e k))
 
+    -- and lead to successors, which are in the file
     pub edge-successor : (i : Instruction) → i ∈ instructionsOf (blockAt f b) → (e : Edge) → e ∈ i .edges → e .target ∈ successors f b
     edge-successor i m e k = Memᴰ·map (λ (e : Edge). e .target) (∈-concatMap (λ (i : Instruction). i .edges) m k)
 
@@ -186,6 +194,7 @@ module _ (f : Function) (accepted : Accepted f) where
         go false t =
             absurd (not-∈-nil (subst (_∈_ e) (empty-nil (i .edges) (and-left (empty (i .edges)) (empty (i .contexts)) t)) k))
 
+    -- nothing stands behind it
     pub edge-last : (earlier : List Instruction) (i : Instruction) (later : List Instruction)
         → instructionsOf (blockAt f b) ≡ earlier ++ (i ∷ later) → (e : Edge) → e ∈ i .edges → later ≡ []
     edge-last earlier i later split e k =
@@ -202,17 +211,20 @@ module _ (f : Function) (accepted : Accepted f) where
         definition-in-file v (Memᴰ·append-left (concatMap (λ i. i .results) (allInstructions f))
         (∈-concatMap (λ (b : Block). b .parameters) (block-in-file b inside) m))
 
+    -- a result is a value of the file
     pub result-in-file : (i : Instruction) → i ∈ instructionsOf (blockAt f b) → (v : ℕ) → v ∈ i .results → v < length (f .values)
     result-in-file i m v k =
         definition-in-file v (Memᴰ·append-right (concatMap (λ b. b .parameters) (f .blocks))
         (∈-concatMap (λ (i : Instruction). i .results) (∈-concatMap instructionsOf (block-in-file b inside) m) k))
 
+    -- an operand is a value of the file
     operand-in-file : (i : Instruction) → i ∈ instructionsOf (blockAt f b) → (v : ℕ) → v ∈ (i .arguments ++ (valuesPassed i ++ i .contexts))
         → v < length (f .values)
     operand-in-file i m v k =
         use-in-file v
         (∈-concatMap (λ (i : Instruction). i .arguments ++ (valuesPassed i ++ i .contexts)) (∈-concatMap instructionsOf (block-in-file b inside) m) k)
 
+    -- so is an argument, a value passed, and a context
     pub argument-in-file : (i : Instruction) → i ∈ instructionsOf (blockAt f b) → (v : ℕ) → v ∈ i .arguments → v < length (f .values)
     argument-in-file i m v k = operand-in-file i m v (Memᴰ·append-left (valuesPassed i ++ i .contexts) k)
 

@@ -101,6 +101,7 @@ module _ (f : Function) where
     abbrev pub OwnSlots : List ℕ → Type 0
     OwnSlots vs = (v : ℕ) → v ∈ vs → T (isSpilled f v) → (u : ℕ) → T (live u) → T (isSpilled f u) → u ≢ v → slot u ≢ slot v
 
+    -- the items that store these
     abbrev stores : List ℕ → List Made → List Item
     stores vs ns = concatZip (storeItems size slot) vs ns
 
@@ -111,6 +112,7 @@ module _ (f : Function) where
         × ((x : ℕ) → x < length (f .values) → pastAll (stores vs ns) γ .words x ≡ γ .words x)
         × ((u : ℕ) → T (live u) → T (isSpilled f u) → pastAll (stores vs ns) γ .slots (slot u) ≡ word u)
 
+    -- behind one of them
     abbrev stored-one : ℕ → ℕ → Ghost → Ghost
     stored-one v a γ = past (store v a) (past (slotAddress a (slot v)) γ)
 
@@ -126,6 +128,7 @@ module _ (f : Function) where
     but-first : (v : ℕ) (vs : List ℕ) (u : ℕ) → T (not (has u vs)) → T (not (eqb u v)) → T (not (has u (v ∷ vs)))
     but-first v vs u h k = not-T (has u (v ∷ vs)) (λ t. or-elim (eqb u v) (has u vs) (T-not (eqb u v) k) (T-not (has u vs) h) t)
 
+    -- Stores of definitions that have their words leave all held, if no store takes the slot of a value that is live.
     pub stores-left : (limit : ℕ) (vs : List ℕ) (ns : List Made) (γ : Ghost) → Each (Defined f limit) vs ns → Each Stored vs ns
         → ((v : ℕ) → v ∈ vs → (v < length (f .values)) × (γ .words v ≡ word v)) → OwnSlots vs → HeldBut vs γ → LeftStored vs ns γ
     stores-left limit [] ns γ d s known own held = (tt, λ x h. refl, λ u l t. held u l t tt)

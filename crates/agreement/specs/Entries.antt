@@ -68,6 +68,7 @@ module _ (f g : Function) (Entry : ℕ → Ghost → Type 0) where
       × ((l : Block) → IsBlock g (e′ .target) l
       → Crosses e (l .items) (binding (l .parameters) (map (passing γ) (e′ .arguments)) γ))
 
+  -- an edge, either way
   abbrev pub Goes : Ghost → Edge → Edge → Type 0
   Goes γ e e′ = Leads (passing γ) e e′ γ ⊎ LandsWell e e′ γ
 

@@ -40,15 +40,18 @@ module _ (f : Function) (pointer : ℕ) (accepted : Accepted f) (dominated : Dom
   module _ (spot : Spot f) (n : InstructionPlan)
       (numbered : InstructionNumbered f (valueLimit f pointer) (spot .at, listHere f spot) n) (stored : ResultsStored (spot .at, listHere f spot) n) (γ : Ghost)
       (point : Point f pointer (definedHere f spot) (liveBefore f spot) γ) where
+    -- the ghost behind it
     abbrev γ₂ : Ghost
     γ₂ = steppedGhost f pointer spot n γ
 
     behind : Behind f pointer spot γ₂
     behind = behind-here f pointer accepted dominated spot n numbered γ point
 
+    -- the stores of its results
     abbrev storesHere : List Item
     storesHere = concatZip (storeItems (sizeOf f) (slotNumber f pointer)) (spot .at .results) (n .results)
 
+    -- they leave everything live held
     results-left : LeftStored f (sizeOf f) (slotNumber f pointer) (liveAfter f spot) (spot .at .results) (n .results) γ₂
     results-left =
         let moved = moving (isMarked f) (rewrittenHere f pointer spot n γ) (loadedGhost f pointer spot n γ) in
@@ -60,6 +63,7 @@ module _ (f : Function) (pointer : ℕ) (accepted : Accepted f) (dominated : Dom
         (apart .results-apart (spot .block) (spot-reachable f spot) (spot .earlier) (spot .at) (spot .later) (spot .split))
         (λ u l t h. behind .held u (after-behind f (spot .at) (liveAfter f spot) u l) t h)
 
+    -- so behind them a point is reached again
     point-behind : Point f pointer (definedBehind f spot) (liveAfter f spot) (pastAll storesHere γ₂)
     point-behind =
         record {
@@ -76,6 +80,7 @@ module _ (f : Function) (pointer : ℕ) (accepted : Accepted f) (dominated : Dom
     abbrev listedFrom : List Instruction → List (Instruction × Option (List ℕ))
     listedFrom is = zipWith (λ i l. (i, l)) is (listsAmong f is (process f .outs t))
 
+    -- each reads what the original reads, and leaves a point for the next
     instructions-follow : (earlier is : List Instruction) → instructionsOf (blockAt f t) ≡ earlier ++ is
         → (ns : List InstructionPlan) → Each (InstructionNumbered f (valueLimit f pointer)) (listedFrom is) ns → Each ResultsStored (listedFrom is) ns
         → ((x : Instruction × Option (List ℕ)) (m : InstructionPlan) → Paired x m (listedFrom is) ns
@@ -118,12 +123,14 @@ module _ (f : Function) (pointer : ℕ) (accepted : Accepted f) (dominated : Dom
     abbrev live : NumberSet
     live = liveFirst f t
 
+    -- the ghost behind its parameters
     abbrev γ₀ : Ghost
     γ₀ = defining (here-block .parameters) γ
 
     numbered-here : BlockNumbered f (valueLimit f pointer) t plan
     numbered-here = each-paired (BlockNumbered f (valueLimit f pointer)) (reachable f) (planned f pointer .0) (blocks-numbered f pointer accepted) t plan (by .0)
 
+    -- they leave everything live held
     parameters-left : LeftStored f (sizeOf f) (slotNumber f pointer) live (here-block .parameters) (plan .parameters) γ₀
     parameters-left =
         let inside = entered-inside f pointer t γ entered accepted in
@@ -132,9 +139,11 @@ module _ (f : Function) (pointer : ℕ) (accepted : Accepted f) (dominated : Dom
         (λ v m. (parameter-in-file f accepted t inside v m, defining-new (here-block .parameters) γ v (∈→has m)))
         (apart .parameters-apart t (entered-reachable f pointer t γ entered)) (entering-held f pointer t γ entered)
 
+    -- the stores of its parameters
     abbrev storesFirst : List Item
     storesFirst = concatZip (storeItems (sizeOf f) (slotNumber f pointer)) (here-block .parameters) (plan .parameters)
 
+    -- so behind them its first point is reached
     first-point : Point f pointer (definedBefore f (entered .passed) t []) live (pastAll storesFirst γ₀)
     first-point =
         record {
@@ -145,9 +154,11 @@ module _ (f : Function) (pointer : ℕ) (accepted : Accepted f) (dominated : Dom
           held = parameters-left .2;
         }
 
+    -- its instructions with their lists, as they are computed from its end
     listed-here : listedInstructions f t ≡ listedFrom t (entered .passed) (entered .path) plan by (instructionsOf here-block)
     listed-here = ap (zipWith (λ i l. (i, l)) (instructionsOf here-block)) (lists-reachable f t (entered-reachable f pointer t γ entered))
 
+    -- the rewritten block follows it
     block-follows : Follows f (rewritten f pointer) (Entered f pointer) (map instruction (instructionsOf here-block))
         (mainBlock f pointer here-block (listedInstructions f t) plan .items) γ₀
     block-follows =

@@ -36,9 +36,11 @@ module _ (Good : Plan → Type 0) where
   abbrev pub Costs : {A : Type 0} → ℕ → Planning A → Type 0
   Costs k m = (p : Plan) → Grown Good k p (m p .1)
 
+  -- not at all
   grown-none : {p : Plan} → Grown Good 0 p p
   grown-none {p} = record { values = omega arith; values-by = omega arith; blocks = omega arith; blocks-by = omega arith; good = λ g. g }
 
+  -- twice
   grown-then : {j k : ℕ} {p q r : Plan} → Grown Good j p q → Grown Good k q r → Grown Good (j + k) p r
   grown-then a b =
       record {
@@ -49,6 +51,7 @@ module _ (Good : Plan → Type 0) where
         good = λ g. b .good (a .good g);
       }
 
+  -- by less than that
   grown-more : {j k : ℕ} {p q : Plan} → j ≤ k → Grown Good j p q → Grown Good k p q
   grown-more l a =
       record {
@@ -65,6 +68,7 @@ module _ (Good : Plan → Type 0) where
     each-costs [] h p = grown-none
     each-costs (x ∷ xs) h p = grown-then (h x (here refl) p) (each-costs xs (λ y m. h y (there m)) (k x p .1))
 
+    -- also the last one first
     pub each-costs-backward : (xs : List A) → ((x : A) → x ∈ xs → Costs (cost x) (k x)) → Costs (sum cost xs) (forEachBackward k xs)
     each-costs-backward [] h p = grown-none
     each-costs-backward (x ∷ xs) h p =
@@ -101,24 +105,30 @@ nothing-kept f pointer =
 abbrev pub two : {A : Type 0} → A → ℕ
 two _ = 2
 
+-- for a definition its address
 abbrev pub one : {A : Type 0} → A → ℕ
 one _ = 1
 
+-- for an edge its landing, and two for what it passes
 abbrev pub edgeCost : Edge → ℕ
 edgeCost e = 1 + sum two (e .arguments)
 
+-- for an instruction what its results, arguments and edges ask for
 abbrev pub instructionCost : Instruction → ℕ
 instructionCost i = sum one (i .results) + (sum two (i .arguments) + sum edgeCost (i .edges))
 
+-- for a block what its instructions and parameters ask for
 abbrev pub blockCost : Function → ℕ → ℕ
 blockCost f b = sum (λ x. instructionCost (x .0)) (listedInstructions f b) + sum one (blockAt f b .parameters)
 
 module _ (f : Function) (pointer : ℕ) (Fine Given : ℕ → Type 0) (Good : Plan → Type 0) (keeps : StepsKeep f pointer Fine Given Good) where
+  -- a new value costs one
   value-costs : (size : ℕ) → Fine size → Costs Good 1 (newValue size)
   value-costs size fine p =
       let more = one-more (p .values) (record { size = size; marked = false }) in
       record { values = omega (arith, more); values-by = omega (arith, more); blocks = omega arith; blocks-by = omega arith; good = keeps .value size fine p }
 
+  -- a slot costs no value and no block
   slot-costs : (v : ℕ) → Given v → Costs Good 0 (planSlot f pointer v)
   slot-costs v t p =
       record { values = omega arith; values-by = omega arith; blocks = omega arith; blocks-by = omega arith; good = keeps .slot v t p }
@@ -126,6 +136,7 @@ module _ (f : Function) (pointer : ℕ) (Fine Given : ℕ → Type 0) (Good : Pl
   pub slots-cost : (vs : List ℕ) → ((v : ℕ) → v ∈ vs → Given v) → Costs Good (sum (λ _. 0) vs) (forEach (planSlot f pointer) vs)
   slots-cost vs h = each-costs Good (planSlot f pointer) (λ _. 0) vs (λ v m. slot-costs v (h v m))
 
+  -- a use costs two, spilled or not
   pub use-costs : (v : ℕ) → Costs Good 2 (planUse f pointer v)
   use-costs v p = go (isSpilled f v) (λ t. t)
     where
@@ -137,6 +148,7 @@ module _ (f : Function) (pointer : ℕ) (Fine Given : ℕ → Type 0) (Good : Pl
           (value-costs (sizeOf f v) (keeps .spilled-fine v (s tt)) (newValue pointer given .1)))
       go false s = grown-more Good (omega arith) (grown-none Good)
 
+  -- a definition one
   pub definition-costs : (v : ℕ) → Costs Good 1 (planDefinition f pointer v)
   definition-costs v p = go (isSpilled f v) (p .slots .slotOf v) refl
     where
@@ -154,9 +166,11 @@ module _ (f : Function) (pointer : ℕ) (Fine Given : ℕ → Type 0) (Good : Pl
   edge-use-costs (passes.Returned k) = λ p. grown-more Good (omega arith) (grown-none Good)
   edge-use-costs (passes.Exception k) = λ p. grown-more Good (omega arith) (grown-none Good)
 
+  -- an edge without a landing, and one of a safepoint
   pub edge-costs : (e : Edge) → Costs Good (edgeCost e) (planEdge f pointer e)
   edge-costs e p = grown-more Good (omega arith) (each-costs Good (planEdgeUse f pointer) two (e .arguments) (λ x m. edge-use-costs x) p)
 
+  -- what a landing is passed
   pub landed-costs : (xs : List EdgeArgument) (ps : List ℕ) → ((t : ℕ) → t ∈ ps → Fine (sizeOf f t))
       → Costs Good (sum two xs) (forEach (λ m. m) (landedSteps f pointer xs ps))
   landed-costs [] ps fine p = grown-none Good
@@ -185,6 +199,7 @@ module _ (f : Function) (pointer : ℕ) (Fine Given : ℕ → Type 0) (Good : Pl
           (landed-costs (e .arguments) (blockAt f (e .target) .parameters) (λ t m. keeps .parameter-fine (e .target) t m) (newBlock p .1))
       go false = grown-more Good (omega arith) (grown-none Good)
 
+  -- several definitions, and several uses
   pub definitions-cost : (vs : List ℕ) → Costs Good (sum one vs) (forEach (planDefinition f pointer) vs)
   definitions-cost vs = each-costs Good (planDefinition f pointer) one vs (λ v m. definition-costs v)
 

@@ -165,6 +165,7 @@ module _ (f : Function) (pointer : ℕ) where
     abbrev pub allLandings : List Block
     allLandings = concatZip blockLandings (reachable f) (planned f pointer .0)
 
+    -- no two share a number, and none is a block's of the file
     pub landings-between : Between (length (f .blocks)) (planned f pointer .1 .blocks) allLandings
     unfolding planned
     landings-between =

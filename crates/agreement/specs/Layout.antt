@@ -101,6 +101,7 @@ module _ (f : Function) (pointer : ℕ) where
           let rest = later (∈-elim (λ e. absurd (other tt (sym e))) (λ k. k) m) in
           (rest .0, there (rest .1), rest .2)
 
+  -- a block without a plan is copied
   pub laid-copied : (xs : List ℕ) (ns : List BlockPlan) (b : Block) → T (not (has (b .number) xs)) → laid f pointer xs ns b ≡ b ∷ []
   laid-copied [] ns b h = refl
   laid-copied (x ∷ xs) [] b h = refl

@@ -52,6 +52,7 @@ module _ (f : Function) (dominated : Dominated f) where
       ⊎-elim (λ d. Memᴰ·append-right (concatMap (definedIn f) passed) d) (λ d. Memᴰ·append-left (definedIn f t) d)
       (List·Memᴰ·append-cases (definedIn f t) m)
 
+  -- what is said of values that are live out of a block, and into one
   abbrev OutDefined : (b v : ℕ) → LiveOut f b v → Type 0
   OutDefined b v _ = (passed : List ℕ) → PathTo f b passed → v ∈ concatMap (definedIn f) (b ∷ passed)
 

@@ -100,6 +100,7 @@ module _ (f : Function) (pointer : ℕ) where
   arguments-passed [] = refl
   arguments-passed (v ∷ vs) = ap (andThen (planUse f pointer v)) (arguments-passed vs)
 
+  -- so their numbers are as an edge's
   pub arguments-numbered : (vs : List ℕ) → Numbers false (map passes.Value vs) (forEach (planUse f pointer) vs)
   arguments-numbered vs = subst (Numbers false (map passes.Value vs)) (sym (arguments-passed vs)) (uses-numbered (map passes.Value vs))
 
@@ -115,6 +116,7 @@ module _ (f : Function) (pointer : ℕ) where
   abbrev pub landedSteps : List EdgeArgument → List ℕ → List (Planning Made)
   landedSteps xs ps = zipWith (λ x p. planLanded f pointer x (sizeOf f p)) xs ps
 
+  -- each operand of a landing has its numbers
   pub landed-numbered : (xs : List EdgeArgument) (ps : List ℕ) → length xs ≡ length ps
       → Numbers true xs (forEach (λ m. m) (landedSteps xs ps))
   landed-numbered [] ps e p = omega arith

@@ -113,10 +113,12 @@ module _ (f : Function) (limit : ℕ) where
   OperandsNumbered safepoint xs none ns lo hi = Numbered f false lo hi xs ns × (T safepoint → T (not (any (isSpilled f) (valuesAmong xs))))
   OperandsNumbered safepoint xs (some _) ns lo hi = Numbered f true lo hi xs ns
 
+  -- all from some new number on, below the limit
   abbrev pub EdgeNumbered : Bool → Edge → EdgePlan → Type 0
   EdgeNumbered safepoint e n =
       (lo : ℕ) × (hi : ℕ) × New f lo × OperandsNumbered safepoint (e .arguments) (n .landing) (n .arguments) lo hi × (hi ≤ limit)
 
+  -- an instruction's arguments are numbered from first to last, and what is loaded before it, for its edges too, ascends from there
   pub record InstructionNumbered (x : Instruction × Option (List ℕ)) (n : InstructionPlan) : Type 0 where
     pub first : ℕ
     pub last : ℕ
@@ -126,6 +128,7 @@ module _ (f : Function) (limit : ℕ) where
     pub loads : (end : ℕ) × Ascending first end (loadedBefore (x .0) n) × (end ≤ limit)
     pub results : Each Defined (x .0 .results) (n .results)
 
+  -- every number of a block
   pub record BlockNumbered (b : ℕ) (n : BlockPlan) : Type 0 where
     pub parameters : Each Defined (blockAt f b .parameters) (n .parameters)
     pub instructions : Each InstructionNumbered (listedInstructions f b) (n .instructions)

@@ -92,15 +92,18 @@ module _ (f : Function) (i : Instruction) (after : NumberSet) where
   abbrev pub behindIt : NumberSet
   behindIt = adding (keep (isMarked f) (valuesPassed i)) after
 
+  -- what is live behind it, and what is passed
   pub after-behind : (v : ℕ) → T (after v) → T (behindIt v)
   after-behind v t = or-right (has v (keep (isMarked f) (valuesPassed i))) (after v) t
 
   pub passed-behind : (v : ℕ) → v ∈ valuesPassed i → T (isMarked f v) → T (behindIt v)
   passed-behind v m t = or-left (has v (keep (isMarked f) (valuesPassed i))) (after v) (∈→has (∈-keep (isMarked f) m t))
 
+  -- is live across it, but for its results
   pub behind-across : (v : ℕ) → T (behindIt v) → T (not (has v (i .results))) → T (across f i after v)
   behind-across v t n = and-intro (not (has v (i .results))) (behindIt v) n t
 
+  -- and so before it, as its arguments are
   pub across-before : (v : ℕ) → T (across f i after v) → T (before f i after v)
   across-before v t = or-right (has v (keep (isMarked f) (i .arguments))) (across f i after v) t
 

@@ -92,9 +92,11 @@ module _ (f : Function) (pointer : ℕ) (accepted : Accepted f) where
       (subst (λ is. Shape (at is) (concatZip (instructionItems (sizeOf f) (slotNumber f pointer)) listed (n .instructions))) same
       (instructions-shape (sizeOf f) (slotNumber f pointer) f (valueLimit f pointer) listed (n .instructions) (numbered .instructions)))
 
+  -- the blocks that a block of the file becomes
   abbrev lay : Block → List Block
   lay = laid f pointer (reachable f) (planned f pointer .0)
 
+  -- block by block
   blocks-laid : (bs : List Block) → ((b : Block) → b ∈ bs → b ∈ f .blocks) → Laid (numbers (f .blocks)) bs (concatMap lay bs)
   blocks-laid [] h = Laid.done
   blocks-laid (b ∷ bs) h =
@@ -175,6 +177,7 @@ module _ (f : Function) (pointer : ℕ) (accepted : Accepted f) where
       let alone = subst (_∈_ b′) (laid-copied f pointer (reachable f) (planned f pointer .0) b r) k in
       copied t (here-at .0) r (List·Memᴰ·eq-of-singleton alone ∙ sym (here-at .1)))
 
+  -- every block of the rewritten function is one of these
   pub standing : (b′ : Block) → b′ ∈ rewritten f pointer .blocks → Standing b′
   unfolding rewritten
   standing b′ m =
@@ -204,6 +207,7 @@ module _ (f : Function) (pointer : ℕ) (accepted : Accepted f) where
     unfolding rewritten
     landing-stands = ∈-concatMap lay (block-in-file f accepted t inside) (subst (_∈_ l) (sym (by .1)) (there m))
 
+    -- an edge to it lands
     pub lands : (e′ : Edge) → e′ .target ≡ l .number → Lands f (rewritten f pointer) e′
     lands e′ same =
         record {
@@ -211,6 +215,7 @@ module _ (f : Function) (pointer : ℕ) (accepted : Accepted f) where
           in-file = subst (λ c. T (has c (numbers (rewritten f pointer .blocks)))) (sym same) (∈→has (Memᴰ·map (λ (b : Block). b .number) landing-stands));
         }
 
+    -- and finds it
     pub found-landing : (c : ℕ) → c ≡ l .number → (l′ : Block) → IsBlock (rewritten f pointer) c l′ → l′ ≡ l
     found-landing c same l′ k =
         let at = found-member 0 c (rewritten f pointer .blocks) (k .0, l′) (k .1) in

@@ -30,6 +30,7 @@ use Rattle.agreement.specs.Operands.{OwnWords}
 use Rattle.agreement.specs.Points.{Point, Entered, definedBefore, defined-past, behindIt, after-behind, passed-behind}
 use Rattle.agreement.specs.Points.{behind-across, across-before, argument-before}
 
+-- the block that it stands in and those passed before, and the instructions around it
 pub record Spot (f : Function) : Type 0 where
   pub block : ℕ
   pub passed : List ℕ
@@ -58,12 +59,14 @@ module _ (f : Function) (spot : Spot f) where
   abbrev pub definedBehind : List ℕ
   definedBehind = definedBefore f (spot .passed) (spot .block) (spot .earlier ++ (spot .at ∷ []))
 
+  -- it stands in its block, which is reachable and in the file
   pub spot-stands : spot .at ∈ instructionsOf (blockAt f (spot .block))
   spot-stands = subst (_∈_ (spot .at)) (sym (spot .split)) (Memᴰ·append-right (spot .earlier) (here refl))
 
   pub spot-reachable : spot .block ∈ reachable f
   spot-reachable = path→reachable f (spot .path)
 
+  -- what is live before it is marked
   pub before-marked : (v : ℕ) → T (liveBefore v) → T (isMarked f v)
   before-marked = live-marked f (spot .block) (spot .at ∷ spot .later)
 
@@ -92,9 +95,11 @@ pub record Behind (f : Function) (pointer : ℕ) (spot : Spot f) (γ : Ghost) : 
 
 module _ (f : Function) (pointer : ℕ) (accepted : Accepted f) (spot : Spot f) (xs : List ℕ) (es : List Edge) (ms : List MapEntry)
     (γ : Ghost) (point : Point f pointer (definedHere f spot) (liveBefore f spot) γ) where
+  -- the instruction as it was replaced
   abbrev j : Instruction
   j = replaced (spot .at) xs es ms
 
+  -- the ghost over the move
   abbrev moved : Ghost
   moved = moving (isMarked f) j γ
 
@@ -146,10 +151,12 @@ module _ (f : Function) (accepted : Accepted f) (spot : Spot f) (e : Edge) (k : 
   pub passed-here : (v : ℕ) → v ∈ valuesAmong (e .arguments) → v ∈ valuesPassed (spot .at)
   passed-here v m = ∈-concatMap (λ (e : Edge). valuesAmong (e .arguments)) k m
 
+  -- a value that it passes is one of the file
   pub passed-inside : (v : ℕ) → v ∈ valuesAmong (e .arguments) → v < length (f .values)
   passed-inside v m =
       passed-in-file f accepted (spot .block) (spot-inside f spot accepted) (spot .at) (spot-stands f spot) v (passed-here v m)
 
+  -- the edge leads to a successor of the block
   successor-here : e .target ∈ successors f (spot .block)
   successor-here = edge-successor f accepted (spot .block) (spot-inside f spot accepted) (spot .at) (spot-stands f spot) e k
 

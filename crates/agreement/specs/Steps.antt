@@ -39,12 +39,15 @@ module _ (f : Function) (pointer : ℕ) (spot : Spot f) (n : InstructionPlan) (�
   abbrev pub loadsHere : List Item
   loadsHere = loadsOf (sizeOf f) (slotNumber f pointer) (loadedBefore (spot .at) n)
 
+  -- the instruction that stands for it
   abbrev pub rewrittenHere : Instruction
   rewrittenHere = rewrittenInstruction (sizeOf f) (slotNumber f pointer) (spot .at) (orElse [] (listHere f spot)) n
 
+  -- behind the loads
   abbrev pub loadedGhost : Ghost
   loadedGhost = pastAll loadsHere γ
 
+  -- behind the instruction
   abbrev pub steppedGhost : Ghost
   steppedGhost = stepping (isMarked f) rewrittenHere loadedGhost
 
@@ -63,6 +66,7 @@ module _ (f : Function) (pointer : ℕ) (accepted : Accepted f) (dominated : Dom
             (spilled-marked f (l .0) (from .1)),
       )
 
+  -- so is what an edge asks to be loaded
   edge-loaded : (e : Edge) → e ∈ spot .at .edges → (landing : Option ℕ) (ns : List Made)
       → EdgeNumbered f (valueLimit f pointer) (not (isNone (listHere f spot))) e (record { landing = landing; arguments = ns })
       → (l : ℕ × ℕ) → l ∈ edgeLoaded e (record { landing = landing; arguments = ns })
@@ -78,6 +82,7 @@ module _ (f : Function) (pointer : ℕ) (accepted : Accepted f) (dominated : Dom
       )
   edge-loaded e k (some b) ns h l m = absurd (not-∈-nil m)
 
+  -- and so all that is loaded before it
   loaded-live : (l : ℕ × ℕ) → l ∈ loadedBefore (spot .at) n → T (isSpilled f (l .0)) × T (liveBefore f spot (l .0))
   loaded-live l m =
       ⊎-elim (argument-loaded l)
@@ -130,6 +135,7 @@ module _ (f : Function) (pointer : ℕ) (accepted : Accepted f) (dominated : Dom
       (across-listed f (spot .at) (liveAfter f spot) (live-marked f (spot .block) (spot .later)) v t)))
   listed-here v t false s = absurd s
 
+  -- what is asked behind it holds
   pub behind-here : Behind f pointer spot (steppedGhost f pointer spot n γ)
   behind-here =
       let j = rewrittenHere f pointer spot n γ in
@@ -141,6 +147,7 @@ module _ (f : Function) (pointer : ℕ) (accepted : Accepted f) (dominated : Dom
   listed-safepoint true list t = tt
   listed-safepoint false list t = absurd t
 
+  -- an edge without a landing passes what was loaded for it
   pub direct-loaded : (e : Edge) (ns : List Made) → Paired e (record { landing = none; arguments = ns }) (spot .at .edges) (n .edges)
       → LoadedWords f (steppedGhost f pointer spot n γ) (loaded (e .arguments) ns)
   direct-loaded e ns pair l m =

@@ -41,10 +41,12 @@ AllWords vs = (v : ℕ) → v ∈ vs → IsWord v
 abbrev pub FineArgument : EdgeArgument → Type 0
 FineArgument x = IsWord (encode (record′.EdgeArgument x) .third)
 
+-- an edge
 pub record FineEdge (e : Edge) : Type 0 where
   pub target : IsWord (e .target)
   pub arguments : (x : EdgeArgument) → x ∈ e .arguments → FineArgument x
 
+-- an instruction
 pub record FineInstruction (i : Instruction) : Type 0 where
   pub tag : IsWord (i .tag)
   pub arguments : AllWords (i .arguments)
@@ -53,6 +55,7 @@ pub record FineInstruction (i : Instruction) : Type 0 where
   pub contexts : AllWords (i .contexts)
   pub entries : (x : MapEntry) → x ∈ i .entries → IsWord (x .slot) × IsWord (x .size)
 
+-- an item
 abbrev pub FineItem : Item → Type 0
 FineItem (instruction i) = FineInstruction i
 FineItem (slotAddress r s) = IsWord r × IsWord s
@@ -60,11 +63,13 @@ FineItem (store v a) = IsWord v × IsWord a
 FineItem (load r a size) = IsWord r × IsWord a × IsWord size
 FineItem (jump e) = FineEdge e
 
+-- a block
 pub record FineBlock (b : Block) : Type 0 where
   pub number : IsWord (b .number)
   pub parameters : AllWords (b .parameters)
   pub items : (x : Item) → x ∈ b .items → FineItem x
 
+-- a function whose values have a value's size, and its slots a slot's
 pub record FineFunction (f : Function) : Type 0 where
   pub values : (x : Value) → x ∈ f .values → ValueSize (x .size)
   pub slots : (k : ℕ) → k ∈ f .slots → T (has k slotSizes)
@@ -74,6 +79,7 @@ pub record FineFunction (f : Function) : Type 0 where
 no : IsWord 0
 no = omega arith
 
+-- a record of the table whose words fit
 plain : (r : Record) → T (inTable r) → IsWord (encode r .second) → IsWord (encode r .third) → IsWord (encode r .fourth) → Writable r
 plain r t a b c = record { table = t; second = a; third = b; fourth = c }
 

@@ -30,6 +30,7 @@ module _ (count : ℕ) where
   abbrev slotted : StackSlots → NumberSet
   slotted t v = not (isNone (t .slotOf v))
 
+  -- slots as planning makes them
   pub record SlotsGood (t : StackSlots) : Type 0 where
     -- sizes are a slot's
     pub sizes : (k : ℕ) → k ∈ t .made → T (has k slotSizes)
@@ -39,6 +40,7 @@ module _ (count : ℕ) where
     -- each slot was made for a value that had none
     pub few : length (t .made) + lack one count (slotted t) ≤ count
 
+  -- before any is made
   pub none-good : SlotsGood noSlots
   none-good =
       record {
@@ -64,6 +66,7 @@ module _ (count : ℕ) where
       update-elim (λ (o : Option ℕ). o ≡ some r → r < limit) v (some s) (t .slotOf) u
       (λ _ e. subst (λ x. x < limit) (Option·some-injective s r e) l) (λ _ e. old u r e)
 
+  -- a value that gets a slot leaves them so
   slot-from-good : (v size : ℕ) (t : StackSlots) → T (has size slotSizes) → v < count → SlotsGood t
       → (o : Option ℕ) → t .slotOf v ≡ o → (rest : List ℕ) → t .free size ≡ rest → SlotsGood (slotFrom v size o rest t)
   slot-from-good v size t fits l good (some s) e rest d = good
@@ -90,10 +93,12 @@ module _ (count : ℕ) where
         few = omega (arith, good .few, slotted-more v (length (t .made)) t e l, long);
       }
 
+  -- giving one keeps it
   pub give-good : (v size : ℕ) (t : StackSlots) → T (has size slotSizes) → v < count → SlotsGood t → SlotsGood (giveSlot v size t)
   unfolding giveSlot
   give-good v size t fits l good = slot-from-good v size t fits l good (t .slotOf v) refl (t .free size) refl
 
+  -- and so does freeing one
   pub free-good : (v slot size : ℕ) (t : StackSlots) → t .slotOf v ≡ some slot → SlotsGood t → SlotsGood (freeSlot slot size t)
   unfolding freeSlot
   free-good v slot size t e good =

@@ -73,11 +73,13 @@ instructions-cost (i ∷ is) =
       length-append (passedBy i) (concatMap passedBy is),
     )
 
+-- instructions with their lists cost what they cost without
 sum-firsts : (xs : List (Instruction × Option (List ℕ)))
     → sum (λ (x : Instruction × Option (List ℕ)). instructionCost (x .0)) xs ≡ sum instructionCost (map (λ (x : Instruction × Option (List ℕ)). x .0) xs)
 sum-firsts [] = refl
 sum-firsts (x ∷ xs) = ap (λ n. instructionCost (x .0) + n) (sum-firsts xs)
 
+-- a sum of numbers that are at most seven times the largest record count
 sum-bounded : {A : Type 0} (g : A → ℕ) (xs : List A) → ((x : A) → x ∈ xs → g x ≤ 14336) → sum g xs ≤ length xs * 14336
 sum-bounded g [] h = omega arith
 sum-bounded g (x ∷ xs) h = omega (arith, h x (here refl), sum-bounded g xs (λ y m. h y (there m)))

@@ -52,10 +52,12 @@ none-applies (r ∷ rs) refuses t = go (r .applies) t (none-applies rs (and-righ
     go true t later = absurd (T-not (isAccepted (r .why)) (and-left (not (isAccepted (r .why))) (all (λ r. not (isAccepted (r .why))) rs) refuses) t)
     go false t later = (tt, later t)
 
+-- a test that does not fail passes
 not-not : (b : Bool) → T (not (not b)) → T b
 not-not true t = tt
 not-not false t = absurd t
 
+-- An answered call says all of it.
 pub file-accepted : (s : List ℕ) (pointer n : ℕ) → T (isAccepted (rewritingAnswer s pointer n .verdict)) → FileAccepted s pointer n
 unfolding rewritingAnswer rewritingVerdict fileRefusals
 file-accepted s pointer n t =
@@ -97,6 +99,7 @@ block-section rs h b m =
     let from = Memᴰ·of-map blockOf (cut (eqb 2) rs .sections) m in
     (from .0, from .1, from .2, isBlock-body (from .0) (all→∈ isBlock (cut (eqb 2) rs .sections) (file-blocks rs h) (from .1)))
 
+-- every block has instructions for items
 plain : (rs : List Record) → T (ordered 0 rs) → (b : Block) → b ∈ function rs .blocks → b .items ≡ map instruction (instructionsOf b)
 plain rs h b m =
     let x = block-section rs h b m in
@@ -104,6 +107,7 @@ plain rs h b m =
     (items-are (cut opensItem (x .0 .body) .sections) (block-instructions (x .0 .body) (x .3))
     ∙ ap (map instruction) (sym (block-instructions-are (x .0) (x .3))))
 
+-- So the tree is accepted.
 pub tree-accepted : (s : List ℕ) (pointer n : ℕ) → FileAccepted s pointer n → Accepted (functionIn s)
 tree-accepted s pointer n a =
     record {

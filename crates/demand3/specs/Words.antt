@@ -52,10 +52,12 @@ pub record Small (r : Record) : Type 0 where
   pub fourth : IsWord (encode r .fourth)
   pub value : T (eqb (kind r) 1) → ValueSize (encode r .second)
 
+-- a table's 0 or 1
 pub bit-small : (b : Bool) → bit b ≤ 1
 bit-small true = omega arith
 bit-small false = omega arith
 
+-- a slot's logarithm
 pub log-small : (size : ℕ) → IsWord (log2 size)
 log-small size = go (eqb size 1) (eqb size 2) (eqb size 4) (eqb size 8)
   where
@@ -77,10 +79,12 @@ other r a b c n = record { second = a; third = b; fourth = c; value = λ t. absu
 outside : Small record′.Outside
 outside = other record′.Outside (omega arith) (omega arith) (omega arith) tt
 
+-- a row of the table that may not fit
 row : (fits : Bool) (r : Record) → (T fits → Small r) → Small (cond fits r record′.Outside)
 row true r h = h tt
 row false r h = outside
 
+-- one of two rows
 either : (t : Bool) (r s : Record) → Small r → Small s → Small (cond t r s)
 either true r s f g = f
 either false r s f g = g
@@ -94,6 +98,7 @@ edge-argument-small a b l = go (eqb a 0) (eqb a 1)
     go false false = other _ (omega arith) l (omega arith) tt
 
 module _ (k a b c : ℕ) (x : IsWord a) (y : IsWord b) (z : IsWord c) where
+  -- the row of a value tests its size
   value-row : (m : Bool) → T (eqb c 0 && (leb 1 a && leb a 64 && leb b 1)) → Small (record′.Value a m)
   value-row m t =
       let sizes = and-left (leb 1 a && leb a 64) (leb b 1) (and-right (eqb c 0) (leb 1 a && leb a 64 && leb b 1) t) in

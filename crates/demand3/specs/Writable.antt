@@ -80,6 +80,7 @@ module _ (f : Function) (pointer : ℕ) (accepted : Accepted f) (small : SmallPl
       (∈-elim (λ e. subst FineItem (sym e) (small .numbers (suc (l .1)) (omega (arith, below, u)), address, small .sizes (l .0)))
       (loads-fine (suc (suc (l .1))) hi ls (a .1) u x)) m
 
+  -- stores of definitions
   pub stores-fine : (vs : List ℕ) (ns : List Made) → Each (Defined f (valueLimit f pointer)) vs ns → ((v : ℕ) → v ∈ vs → v < length (f .values))
       → (x : Item) → x ∈ concatZip (storeItems (sizeOf f) (slotNumber f pointer)) vs ns → FineItem x
   stores-fine [] ns d inside x m = absurd (not-∈-nil m)
@@ -111,6 +112,7 @@ module _ (f : Function) (pointer : ℕ) (accepted : Accepted f) (small : SmallPl
       ∈-elim (λ e. subst FineArgument (sym e) (own (passes.Exception k) (here refl))) (passed-fine lo hi xs ns (h .1) u (λ x q. own x (there q)) y) m
   passed-fine lo hi (passes.Exception k ∷ xs) (some p ∷ ns) h u own y m = absurd (h .0)
 
+  -- what a landing passes on
   pub landed-fine : (lo hi : ℕ) (xs : List EdgeArgument) (ns : List Made) → Numbered f true lo hi xs ns → hi ≤ valueLimit f pointer
       → ((x : EdgeArgument) → x ∈ xs → FineArgument x) → (y : EdgeArgument) → y ∈ zipWith landedArgument xs ns → FineArgument y
   landed-fine lo hi [] ns h u own y m = absurd (not-∈-nil m)
@@ -134,6 +136,7 @@ module _ (f : Function) (pointer : ℕ) (accepted : Accepted f) (small : SmallPl
       ∈-elim (λ e. subst FineArgument (sym e) (small .numbers p (omega (arith, below, u))))
       (landed-fine (suc p) hi xs ns (h .2) u (λ x q. own x (there q)) y) m
 
+  -- and its parameters
   pub parameters-fine : (lo hi : ℕ) (xs : List EdgeArgument) (ns : List Made) → Numbered f true lo hi xs ns → hi ≤ valueLimit f pointer
       → AllWords (parametersOf xs ns)
   parameters-fine lo hi [] ns h u p m = absurd (not-∈-nil m)

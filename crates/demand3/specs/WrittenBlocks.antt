@@ -31,6 +31,7 @@ module _ (f : Function) (pointer : ℕ) (accepted : Accepted f) (small : SmallPl
   abbrev limit : ℕ
   limit = valueLimit f pointer
 
+  -- a block's number of the file
   own-number : (t : ℕ) → t < length (f .blocks) → IsWord t
   own-number t l = small .blocks t (omega (arith, l, small .own-blocks))
 
@@ -161,6 +162,7 @@ module _ (f : Function) (pointer : ℕ) (accepted : Accepted f) (small : SmallPl
               (List·Memᴰ·append-cases (concatZip (storeItems (sizeOf f) (slotNumber f pointer)) (b .parameters) (n .parameters)) q);
         }
 
+    -- its landings
     landings-fine : (l : Block) → l ∈ landingsOf f pointer accepted t n → FineBlock l
     landings-fine l q =
         let inner = ∈-concatZip-from (instructionLandings f pointer (sizeOf f) (slotNumber f pointer)) (listedInstructions f t) (n .instructions) q in
@@ -177,6 +179,7 @@ module _ (f : Function) (pointer : ℕ) (accepted : Accepted f) (small : SmallPl
             (landing-fine x m pair e (paired-first (x .0 .edges) (m .edges) e _ p) c ns p
             (subst IsWord (ap (λ (b : Block). b .number) same) (landing-number l q)))
 
+  -- a block that is copied
   copied-fine : (t : ℕ) → t < length (f .blocks) → FineBlock (blockAt f t)
   copied-fine t inside =
       let b = blockAt f t in
@@ -188,6 +191,7 @@ module _ (f : Function) (pointer : ℕ) (accepted : Accepted f) (small : SmallPl
             subst FineItem (i .2) (small .own t inside (i .0) (i .1));
       }
 
+  -- Every block is one of these.
   pub blocks-fine : (b : Block) → b ∈ rewritten f pointer .blocks → FineBlock b
   blocks-fine b m = go (standing f pointer accepted b m)
     where
