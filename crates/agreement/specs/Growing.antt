@@ -101,23 +101,23 @@ nothing-kept f pointer =
       parameter-fine = λ _ _ _. tt;
     }
 
--- WHAT IS ASKED FOR
+-- WHAT IS ASKED FOR: for a use its address and its load,
 abbrev pub two : {A : Type 0} → A → ℕ
 two _ = 2
 
--- for a definition its address
+-- for a definition its address,
 abbrev pub one : {A : Type 0} → A → ℕ
 one _ = 1
 
--- for an edge its landing, and two for what it passes
+-- for an edge its landing, and two for each operand that it passes,
 abbrev pub edgeCost : Edge → ℕ
 edgeCost e = 1 + sum two (e .arguments)
 
--- for an instruction what its results, arguments and edges ask for
+-- for an instruction what its results, arguments and edges ask for,
 abbrev pub instructionCost : Instruction → ℕ
 instructionCost i = sum one (i .results) + (sum two (i .arguments) + sum edgeCost (i .edges))
 
--- for a block what its instructions and parameters ask for
+-- and for a block what its instructions and parameters ask for.
 abbrev pub blockCost : Function → ℕ → ℕ
 blockCost f b = sum (λ x. instructionCost (x .0)) (listedInstructions f b) + sum one (blockAt f b .parameters)
 

@@ -18,6 +18,13 @@ use Rattle.lists.specs.Tests.{and-left, and-right}
 use Rattle.simulation.specs.Related.{Each, Place, at, crossing, isAdded, Shape}
 use Rattle.agreement.specs.Plans.{loaded, edgeLoaded, loadedBefore, EdgeNumbered, InstructionNumbered}
 
+-- two lists taken together are as long as they are
+zip-length : {A B C : Type 0} (k : A → B → C) (R : A → B → Type 0) (xs : List A) (ys : List B) → Each R xs ys
+    → length (zipWith k xs ys) ≡ length xs
+zip-length k R [] ys r = refl
+zip-length k R (x ∷ xs) [] r = absurd r
+zip-length k R (x ∷ xs) (y ∷ ys) r = ap suc (zip-length k R xs ys (r .1))
+
 module _ (size slot : ℕ → ℕ) where
   -- the items that load these values through these addresses
   abbrev pub loadsOf : List (ℕ × ℕ) → List Item
@@ -100,12 +107,6 @@ module _ (size slot : ℕ → ℕ) where
   stores-added (v ∷ vs) [] = tt
   stores-added (v ∷ vs) (none ∷ ns) = stores-added vs ns
   stores-added (v ∷ vs) (some a ∷ ns) = stores-added vs ns
-
-  zip-length : {A B C : Type 0} (k : A → B → C) (R : A → B → Type 0) (xs : List A) (ys : List B) → Each R xs ys
-      → length (zipWith k xs ys) ≡ length xs
-  zip-length k R [] ys r = refl
-  zip-length k R (x ∷ xs) [] r = absurd r
-  zip-length k R (x ∷ xs) (y ∷ ys) r = ap suc (zip-length k R xs ys (r .1))
 
   -- the instructions of a list with their own items
   pub instructions-shape : (f : Function) (limit : ℕ) (xs : List (Instruction × Option (List ℕ))) (ns : List InstructionPlan)

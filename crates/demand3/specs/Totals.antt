@@ -30,6 +30,13 @@ use Rattle.agreement.specs.Growing.{one, two, edgeCost, instructionCost, blockC
 use Rattle.agreement.specs.Accepted.{Accepted, block-in-file}
 use Rattle.agreement.specs.Layout.{listed-firsts}
 
+-- what the definitions, uses and edges of one block can ask for, and those of all reachable blocks
+abbrev pub blockMost : ℕ
+blockMost = 7 * largestRecords
+
+abbrev pub planMost : ℕ
+planMost = largestRecords * blockMost
+
 -- SUMS as lengths
 sum-one : {A : Type 0} (xs : List A) → sum one xs ≡ length xs
 sum-one [] = refl
@@ -79,8 +86,8 @@ sum-firsts : (xs : List (Instruction × Option (List ℕ)))
 sum-firsts [] = refl
 sum-firsts (x ∷ xs) = ap (λ n. instructionCost (x .0) + n) (sum-firsts xs)
 
--- a sum of numbers that are at most seven times the largest record count
-sum-bounded : {A : Type 0} (g : A → ℕ) (xs : List A) → ((x : A) → x ∈ xs → g x ≤ 14336) → sum g xs ≤ length xs * 14336
+-- a sum over blocks that each ask for no more than one can
+sum-bounded : {A : Type 0} (g : A → ℕ) (xs : List A) → ((x : A) → x ∈ xs → g x ≤ blockMost) → sum g xs ≤ length xs * blockMost
 sum-bounded g [] h = omega arith
 sum-bounded g (x ∷ xs) h = omega (arith, h x (here refl), sum-bounded g xs (λ y m. h y (there m)))
 
@@ -101,7 +108,7 @@ module _ (s : List ℕ) (few : T (not (tooMany s))) (order : T (ordered 0 (recor
   abbrev rs : List Record
   rs = records s
 
-  records-few : length rs ≤ 2048
+  records-few : length rs ≤ largestRecords
   unfolding records
   records-few =
       let of : ℕ → ℕ = λ k. count (eqb k) (firstWords s) in
@@ -116,29 +123,29 @@ module _ (s : List ℕ) (few : T (not (tooMany s))) (order : T (ordered 0 (recor
       omega (arith, nltb→le largestRecords (recordCount s) fine, each-length (λ t. recordAt t 0) (recordCount s) s)
 
   -- a file's values and blocks
-  pub values-few : length (f .values) ≤ 2048
+  pub values-few : length (f .values) ≤ largestRecords
   unfolding function
   values-few =
       omega (arith, records-few, kind-few 1 rs, length-map (ofKind 1 rs) valueOf)
 
-  pub blocks-few : length (f .blocks) ≤ 2048
+  pub blocks-few : length (f .blocks) ≤ largestRecords
   unfolding function
   blocks-few =
       let ss = cut (eqb 2) rs .sections in
       omega (arith, records-few, kind-few 2 rs, length-map ss blockOf, length-map ss (λ (x : Section). encode (x .head)), ap length (cut-heads 2 rs))
 
   -- what all instructions and blocks have of a kind
-  results-few : length (concatMap (λ i. i .results) (allInstructions f)) ≤ 2048
+  results-few : length (concatMap (λ i. i .results) (allInstructions f)) ≤ largestRecords
   results-few = omega (arith, records-few, kind-few 5 rs, length-map (ofKind 5 rs) second, ap length (results-in-order rs order))
 
-  arguments-few : length (concatMap (λ i. i .arguments) (allInstructions f)) ≤ 2048
+  arguments-few : length (concatMap (λ i. i .arguments) (allInstructions f)) ≤ largestRecords
   arguments-few = omega (arith, records-few, kind-few 6 rs, length-map (ofKind 6 rs) second, ap length (arguments-in-order rs order))
 
-  edges-few : length (allEdges f) ≤ 2048
+  edges-few : length (allEdges f) ≤ largestRecords
   edges-few =
       omega (arith, records-few, kind-few 7 rs, length-map (ofKind 7 rs) second, length-map (allEdges f) (λ (e : Edge). e .target), ap length (targets-in-order rs order))
 
-  passed-few : length (concatMap passedBy (allInstructions f)) ≤ 2048
+  passed-few : length (concatMap passedBy (allInstructions f)) ≤ largestRecords
   passed-few =
       omega (
         arith,
@@ -149,7 +156,7 @@ module _ (s : List ℕ) (few : T (not (tooMany s))) (order : T (ordered 0 (recor
         ap length (concatMap-concatMap (λ (e : Edge). e .arguments) (λ (i : Instruction). i .edges) (allInstructions f)),
       )
 
-  parameters-few : length (concatMap (λ b. b .parameters) (f .blocks)) ≤ 2048
+  parameters-few : length (concatMap (λ b. b .parameters) (f .blocks)) ≤ largestRecords
   parameters-few = omega (arith, records-few, kind-few 3 rs, length-map (ofKind 3 rs) second, ap length (parameters-in-order rs order))
 
   -- what a block of the file has of it
@@ -162,7 +169,7 @@ module _ (s : List ℕ) (few : T (not (tooMany s))) (order : T (ordered 0 (recor
         ap length (concatMap-concatMap part instructionsOf (f .blocks)),
       )
 
-  block-cost : (b : ℕ) → blockAt f b ∈ f .blocks → blockCost f b ≤ 14336
+  block-cost : (b : ℕ) → blockAt f b ∈ f .blocks → blockCost f b ≤ blockMost
   block-cost b m =
       let is = instructionsOf (blockAt f b) in
       omega (
@@ -183,8 +190,8 @@ module _ (s : List ℕ) (few : T (not (tooMany s))) (order : T (ordered 0 (recor
         parameters-few,
       )
 
-  -- So a plan of the whole costs less than thirty million.
-  pub cost-few : Accepted f → sum (blockCost f) (reachable f) ≤ 29360128
+  -- So a plan of the whole asks for far less than a word can count.
+  pub cost-few : Accepted f → sum (blockCost f) (reachable f) ≤ planMost
   cost-few accepted =
       let all-bounded =
       sum-bounded (blockCost f) (reachable f)

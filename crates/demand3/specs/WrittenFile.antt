@@ -7,6 +7,7 @@ use mathlib.Core.Option.{Option, none, some}
 use mathlib.Core.List.{List, []}
 use lib.ListN.{length, List·getD-eq-default}
 use lib.Dec.{T, T-not, ltb, ltb→lt, nltb→le, eqb, eqb→eq}
+use Rattle.rules.specs.Limits.{largestRecords}
 use Rattle.rules.specs.Lists.{has, orElse}
 use Rattle.rules.specs.Tree.{Value, Instruction, Block, Function}
 use Rattle.rules.specs.Records.{IsBytes, slotSizes}
@@ -30,7 +31,7 @@ use Rattle.agreement.specs.Spilled.{spilled-marked, listed-spilled}
 use Rattle.demand3.specs.SlotTables.{ValueSize, PlanGood, none-good, steps-keep-good}
 use Rattle.demand3.specs.Verdicts.{FileAccepted, tree-accepted}
 use Rattle.demand3.specs.Words.{value-sized, tag-small, argument-small, entries-none}
-use Rattle.demand3.specs.Totals.{values-few, blocks-few, cost-few}
+use Rattle.demand3.specs.Totals.{planMost, values-few, blocks-few, cost-few}
 use Rattle.demand3.specs.Fine.{FineInstruction, FineFunction, function-writable}
 use Rattle.demand3.specs.Writable.{SmallPlan}
 use Rattle.demand3.specs.WrittenBlocks.{blocks-fine}
@@ -87,13 +88,13 @@ module _ (s : List ℕ) (pointer n : ℕ) (isBytes : IsBytes s) (file : FileAcce
   good : PlanGood (length (f .values)) (planned f pointer .1)
   good = grown .good (record { values = value-sized s isBytes (file .in-order); slots = none-good (length (f .values)) })
 
-  few-values : length (f .values) ≤ 2048
+  few-values : length (f .values) ≤ largestRecords
   few-values = values-few s (file .few) (file .in-order)
 
-  few-blocks : length (f .blocks) ≤ 2048
+  few-blocks : length (f .blocks) ≤ largestRecords
   few-blocks = blocks-few s (file .few) (file .in-order)
 
-  few-costs : sum (blockCost f) (reachable f) ≤ 29360128
+  few-costs : sum (blockCost f) (reachable f) ≤ planMost
   few-costs = cost-few s (file .few) (file .in-order) accepted
 
   slot-word : (v : ℕ) → IsWord (slotNumber f pointer v)
