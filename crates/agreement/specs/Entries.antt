@@ -39,7 +39,7 @@ abbrev pub ReadsAll : List Item → Ghost → Type 0
 ReadsAll [] γ = Unit
 ReadsAll (x ∷ xs) γ = T (isAdded x) × Reads x γ × ReadsAll xs (past x γ)
 
--- a value of one of two lists stands in both, where these are related member by member
+-- members at one place of two lists that are related member by member are related
 pub each-paired : {A B : Type 0} (R : A → B → Type 0) (xs : List A) (ys : List B) → Each R xs ys
     → (x : A) (y : B) → Paired x y xs ys → R x y
 each-paired R [] ys r x y m = absurd (not-∈-nil m)

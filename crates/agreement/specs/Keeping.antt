@@ -1,4 +1,4 @@
--- What a ghost still knows behind added items, over a move, and where values are defined.
+-- What a ghost knows behind loads: each loaded value has its word, and nothing else has changed.
 use Prim.Native.Nat.{ℕ, suc, _≤_, _<_}
 use native.Mathlib.Omega.{arith}
 use mathlib.Core.Path.{_≡_, refl, sym, ap, subst, _∙_}

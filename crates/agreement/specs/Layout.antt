@@ -1,5 +1,5 @@
--- How the rewritten function is laid out: its blocks are the file's, with added items, and landings behind them; and under a
--- block's number, and a landing's, it is found.
+-- How a block is laid out: by its plan with its landings behind it, or copied; and its instructions with their lists are its
+-- instructions.
 use Prim.Native.Nat.{ℕ, suc}
 use native.Mathlib.Omega.{arith}
 use mathlib.Core.Path.{_≡_, refl, sym, ap, subst, _∙_}
