@@ -105,14 +105,14 @@ through-mono f b s t h v live =
     (subst T (through-split f b s v) live))
 
 -- what is added of a list's marked values is marked
-adding-marked :
+pub adding-marked :
     (f : Function) (l : List ℕ) (s : NumberSet) → Within s (isMarked f)
     → Within (adding (keep (isMarked f) l) s) (isMarked f)
 adding-marked f l s h v =
     or-elim (has v (keep (isMarked f) l)) (s v) (λ t. keep-passes (isMarked f) l (has→∈ (keep (isMarked f) l) t)) (h v)
 
 -- what is left of a set is within what the set is
-removing-within : (l : List ℕ) (s t : NumberSet) → Within s t → Within (removing l s) t
+pub removing-within : (l : List ℕ) (s t : NumberSet) → Within s t → Within (removing l s) t
 removing-within l s t h v k = h v (and-right (not (has v l)) (s v) k)
 
 -- So before a list of instructions all is marked.

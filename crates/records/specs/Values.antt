@@ -128,7 +128,7 @@ getD-rest s i (suc k) l =
     ap (λ rs. getD rs (suc k) record′.Outside) (rest-more s i (omega arith)) ∙ getD-rest s (suc i) k (omega arith) ∙ ap (recordAt s) e
 
 -- what is read at each of n records is n long
-each-length : {A : Type 0} (front : List ℕ → A) (n : ℕ) (s : List ℕ) → length (eachFrom front n s) ≡ n
+pub each-length : {A : Type 0} (front : List ℕ → A) (n : ℕ) (s : List ℕ) → length (eachFrom front n s) ≡ n
 each-length front zero s = refl
 each-length front (suc n) s = ap suc (each-length front n (drop recordBytes s))
 

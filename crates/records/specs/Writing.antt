@@ -109,7 +109,7 @@ abbrev pub AllWritable : List Record → Type 0
 AllWritable [] = Unit {0}
 AllWritable (r ∷ rs) = Writable r × AllWritable rs
 
-bytes-length : (rs : List Record) → length (bytes rs) ≡ recordBytes * length rs
+pub bytes-length : (rs : List Record) → length (bytes rs) ≡ recordBytes * length rs
 unfolding bytes
 bytes-length [] = refl
 bytes-length (r ∷ rs) = let ih = bytes-length rs in omega (arith, length-append (bytesOfRecord r) (concatMap bytesOfRecord rs))

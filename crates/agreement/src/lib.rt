@@ -1,0 +1,1 @@
+// Rewriting makes related trees: theorems about the definitions of crate rules, in specs/. There is no code here.

@@ -1,0 +1,10 @@
+pub mod Verdicts
+pub mod FinalFile
+pub mod SlotTables
+pub mod Words
+pub mod Totals
+pub mod Fine
+pub mod Writable
+pub mod WrittenBlocks
+pub mod WrittenFile
+pub mod Demand3
