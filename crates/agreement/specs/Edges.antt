@@ -27,7 +27,7 @@ use Rattle.agreement.specs.Items.{loadsOf, operands-loads}
 use Rattle.agreement.specs.Accepted.{Accepted, below-number, edge-in-file}
 use Rattle.agreement.specs.Layout.{∈-concatZip, paired-first}
 use Rattle.agreement.specs.Rewritten.{LaidBy, landingsOf, lands, found-landing}
-use Rattle.agreement.specs.Spilled.{spilled-marked}
+use Rattle.sharing.specs.Spilled.{spilled-marked}
 use Rattle.agreement.specs.Keeping.{below-off, loads-slots, loads-other, loads-read, loads-known}
 use Rattle.agreement.specs.Operands.{loaded-spilled, LoadedWords, passing-mean, jumping-mean, parameters-off}
 use Rattle.agreement.specs.Operands.{bound, bound-slots, bound-other, bound-arrived, arrived-kept}

@@ -19,7 +19,7 @@ use Rattle.walks.specs.InFile.{path-in-file}
 use Rattle.fixpoint.specs.Answer.{process-through-outs}
 use Rattle.simulation.specs.Ghost.{word, Ghost, nothingKnown, defining}
 use Rattle.agreement.specs.Accepted.{Accepted}
-use Rattle.agreement.specs.LiveDefined.{none-live-at-start}
+use Rattle.sharing.specs.LiveDominated.{ins-dominated}
 use Rattle.agreement.specs.Changing.{defining-own, defining-slot}
 use Rattle.agreement.specs.Points.{Entered, definedBefore}
 
@@ -74,7 +74,7 @@ starts f pointer dominated =
       point =
           record {
             unmarked = λ v l m u. absurd (not-∈-nil m);
-            unspilled = λ v l u. absurd (none-live-at-start f dominated v l);
-            held = λ v l s. absurd (none-live-at-start f dominated v l);
+            unspilled = λ v l u. absurd (not-∈-nil (ins-dominated dominated start l));
+            held = λ v l s. absurd (not-∈-nil (ins-dominated dominated start l));
           };
     }

@@ -12,10 +12,10 @@ pub mod Keeping
 pub mod Changing
 pub mod Operands
 pub mod Points
+pub mod Apart
 pub mod Spots
 pub mod Steps
 pub mod Edges
-pub mod LiveDefined
 pub mod Entering
 pub mod Following
 pub mod Unchanged

@@ -24,7 +24,8 @@ use Rattle.fixpoint.specs.Answer.{process-resumable, process-outs-joined}
 use Rattle.simulation.specs.Ghost.{word, Ghost, moving, stepping}
 use Rattle.simulation.specs.Related.{replaced}
 use Rattle.agreement.specs.Accepted.{Accepted, edge-results, edge-last, edge-successor, argument-in-file, passed-in-file}
-use Rattle.agreement.specs.Spilled.{live-marked, spilled-marked, across-spilled}
+use Rattle.sharing.specs.Spilled.{spilled-marked, across-spilled}
+use Rattle.agreement.specs.Spilled.{live-marked}
 use Rattle.agreement.specs.Changing.{defining-own, defining-slot, moving-unmarked, moving-still, moving-slot}
 use Rattle.agreement.specs.Operands.{OwnWords}
 use Rattle.agreement.specs.Points.{Point, Entered, definedBefore, defined-past, behindIt, after-behind, passed-behind}
@@ -125,7 +126,7 @@ module _ (f : Function) (pointer : ℕ) (accepted : Accepted f) (spot : Spot f) 
             test-elim (i .safepoint)
             (λ s.
             absurd (T-not (isSpilled f v) t
-            (across-spilled f (spot .block) (spot-reachable f spot) (spot-inside f spot accepted) (spot .earlier) i (spot .later) (spot .split) s v
+            (across-spilled f v (spot-reachable f spot) (spot .earlier) i (spot .later) (spot .split) s
             across-it)))
             (λ s.
             ap (λ (δ : Ghost). δ .words v) (moving-still (isMarked f) j γ s) ∙ point .unspilled v (across-before f i after v across-it) t));

@@ -26,7 +26,8 @@ use Rattle.agreement.specs.Plans.{loaded, edgeLoaded, loadedBefore, valu
 use Rattle.agreement.specs.Items.{loadsOf}
 use Rattle.agreement.specs.Accepted.{Accepted}
 use Rattle.agreement.specs.Layout.{∈-concatZip-from, ∈-concatZip, paired-first}
-use Rattle.agreement.specs.Spilled.{live-marked, spilled-marked, across-listed}
+use Rattle.sharing.specs.Spilled.{spilled-marked}
+use Rattle.agreement.specs.Spilled.{live-marked, across-listed}
 use Rattle.agreement.specs.Keeping.{below-off, loads-slots, loads-other, loads-read, loads-known}
 use Rattle.agreement.specs.Changing.{defining-word, moving-still}
 use Rattle.agreement.specs.Operands.{arguments-among, loaded-spilled, LoadedWords, arguments-mean}

@@ -1,4 +1,4 @@
--- DEMAND 3, from what is asked of slots: the original and what rewriting leaves are seen to do the same.
+-- DEMAND 3: the original and what rewriting leaves are seen to do the same.
 use Prim.Native.Nat.{ℕ}
 use mathlib.Core.Path.{sym, subst}
 use mathlib.Core.Bool.{not}
@@ -21,11 +21,11 @@ use Rattle.fixpoint.specs.Finding.{∈-keep, ∈-upFrom}
 use Rattle.fixpoint.specs.Rule.{marked-in-file}
 use Rattle.simulation.specs.Related.{Related}
 use Rattle.simulation.specs.Simulation.{demand3-by-relation}
-use Rattle.agreement.specs.Spilled.{spilled-marked}
-use Rattle.agreement.specs.Points.{SlotsApart}
+use Rattle.sharing.specs.Spilled.{spilled-marked}
+use Rattle.agreement.specs.Apart.{slots-apart}
 use Rattle.agreement.specs.Following.{rewriting-related}
 use Rattle.agreement.specs.Unchanged.{unspilled-related}
-use Rattle.demand3.specs.Verdicts.{FileAccepted, file-accepted, tree-accepted}
+use Rattle.demand3.specs.Verdicts.{file-accepted, tree-accepted}
 use Rattle.demand3.specs.FinalFile.{final-unchanged, final-rewritten}
 use Rattle.demand3.specs.WrittenFile.{rewritten-writable}
 
@@ -42,15 +42,11 @@ none-spilled f u v =
     none [] u m = not-∈-nil m
     none (w ∷ vs) u m = u
 
--- WHAT IS ASKED OF SLOTS, of every accepted file in which every use is dominated.
-abbrev pub SlotsAsked : Type 0
-SlotsAsked = (s : List ℕ) (pointer n : ℕ) → FileAccepted s pointer n → Dominated (functionIn s) → SlotsApart (functionIn s) pointer
-
 -- An accepted file and what rewriting leaves of it are related.
-pub final-related : SlotsAsked → (s : List ℕ) (pointer n : ℕ) → IsBytes s
+pub final-related : (s : List ℕ) (pointer n : ℕ) → IsBytes s
     → T (isAccepted (rewritingAnswer s pointer n .verdict)) → Dominated (functionIn s)
     → Related (functionIn s) (functionIn (finalFile s pointer n))
-final-related slots s pointer n isBytes accepted dominated =
+final-related s pointer n isBytes accepted dominated =
     let f = functionIn s in
     let file = file-accepted s pointer n accepted in
     let tree = tree-accepted s pointer n file in
@@ -61,8 +57,8 @@ final-related slots s pointer n isBytes accepted dominated =
     (λ u.
     subst (λ t. Related f (functionIn t)) (sym (final-rewritten s pointer n accepted file u))
     (subst (Related f) (sym (function-in-bytes (rewritten f pointer) (rewritten-writable s pointer n isBytes file)))
-    (rewriting-related f pointer tree dominated (slots s pointer n file dominated))))
+    (rewriting-related f pointer tree dominated (slots-apart f pointer (file .once) (file .in-file) dominated))))
 
--- So demand 3 holds.
-pub demand3-by-slots : SlotsAsked → Demand3
-demand3-by-slots slots = demand3-by-relation (final-related slots)
+-- Demand 3 holds.
+pub demand3 : Demand3
+demand3 = demand3-by-relation final-related

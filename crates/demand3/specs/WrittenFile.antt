@@ -27,7 +27,8 @@ use Rattle.fixpoint.specs.Finding.{any-intro, ∈-keep, ∈-upFrom}
 use Rattle.fixpoint.specs.Rule.{marked-in-file}
 use Rattle.agreement.specs.Growing.{Grown, blockCost, planned-costs}
 use Rattle.agreement.specs.Accepted.{Accepted, block-in-file, edge-in-file, parameter-in-file, argument-in-file, result-in-file, context-in-file}
-use Rattle.agreement.specs.Spilled.{spilled-marked, listed-spilled}
+use Rattle.sharing.specs.Spilled.{spilled-marked}
+use Rattle.agreement.specs.Spilled.{listed-spilled}
 use Rattle.demand3.specs.SlotTables.{ValueSize, PlanGood, none-good, steps-keep-good}
 use Rattle.demand3.specs.Verdicts.{FileAccepted, tree-accepted}
 use Rattle.demand3.specs.Words.{value-sized, tag-small, argument-small, entries-none}

@@ -4,7 +4,7 @@ use Prim.Native.Nat.{ℕ}
 use mathlib.Core.Path.{_≡_, refl, sym, subst}
 use mathlib.Core.Logic.{_⊎_, inl, inr, _≢_, ⊎-elim}
 use mathlib.Core.HLevel.{¬-prop}
-use mathlib.Core.List.{List, [], _∷_, _++_, List·Nodup}
+use mathlib.Core.List.{List, _∷_, _++_, List·Nodup}
 use mathlib.Core.List.{Pairwise, pairwise-append, pairwise-cons, List·Memᴰ·append-cases, Memᴰ·append-right}
 use lib.Dec.{T}
 use Rattle.rules.specs.Lists.{concatMap}
