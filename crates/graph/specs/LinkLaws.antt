@@ -30,7 +30,7 @@ pub record Chained (m : ℕ) (l : Links) : Type 0 where
 
 module _ (from next : List ℕ) (used : ℕ) (falls : (e : ℕ) → e < used → getD next e 0 ≤ e) where
   -- any number of entries that is enough gives the whole list
-  enough : (k j tag : ℕ) → tag ≤ k → tag ≤ j → tag ≤ used → listFrom from next k tag ≡ listFrom from next j tag
+  pub enough : (k j tag : ℕ) → tag ≤ k → tag ≤ j → tag ≤ used → listFrom from next k tag ≡ listFrom from next j tag
   enough zero zero tag a b c = refl
   enough zero (suc j) zero a b c = refl
   enough zero (suc j) (suc e) a b c = absurd (omega arith)

@@ -1,0 +1,143 @@
+-- Pushing the blocks of a list, one entry after the other; and all blocks by index, from the highest down.
+use Prim.Native.Nat.{ℕ, zero, suc, _+_, _-_, _<_, _≤_, _^_}
+use native.Mathlib.Omega.{arith}
+use native.Mathlib.Numerals.{add-one}
+use mathlib.Core.Path.{_≡_, refl, sym, ap, subst, _∙_}
+use mathlib.Core.List.{List, [], _∷_, List·Nodup, nodup-cons}
+use lib.ListN.{length, getD, take, drop}
+use lib.Seq.{getD-take, drop-cons, drop-length, length-take-le}
+use Rattle.rules.specs.Limits.{largestBlocks}
+use Rattle.lists.specs.Members.{_∈_, here, there, getD-∈}
+use Rattle.fixpoint.specs.Removal.{moveToTop, remove-absent}
+use Rattle.worklist.specs.Entries.{entries, Stacked}
+use Rattle.solving.specs.declared.Progress.{Progress}
+use Rattle.solving.specs.Chains.{chain, Chain, chain-more, chain-behind}
+use Rattle.solving.specs.Progress.{pushAll, Pushable, Pushed}
+
+-- nothing is left to push
+pushed-none : (at : Progress) → Pushed [] at at
+pushed-none at = record { left = refl; visits = refl; pushes = omega arith }
+
+-- ONE PUSH: what is known of the progress behind it
+pub record One (p : ℕ) (at r : Progress) : Type 0 where
+  pub left : entries (r .worklist) ≡ moveToTop p (entries (at .worklist))
+  pub stacked : Stacked (entries (r .worklist))
+  pub visits : r .visits ≡ at .visits
+  pub pushes : r .pushes ≡ at .pushes + 1
+
+-- it and the pushes behind it
+pushed-more : (p : ℕ) (ps : List ℕ) (at at′ r : Progress) → One p at at′ → Pushed ps at′ r → Pushed (p ∷ ps) at r
+pushed-more p ps at at′ r one h =
+    record {
+      left = h .left ∙ ap (pushAll ps) (one .left);
+      visits = h .visits ∙ one .visits;
+      pushes = omega (arith, h .pushes, one .pushes);
+    }
+
+pushable-more : (p : ℕ) (ps : List ℕ) (at at′ : Progress) → One p at at′ → Pushable (p ∷ ps) at → Pushable ps at′
+pushable-more p ps at at′ one h =
+    record {
+      stacked = one .stacked;
+      below = λ q m. h .below q (there m);
+      counted = omega (arith, h .counted, one .pushes);
+    }
+
+-- A LIST. What is left of it, from a tag on, leads to the end.
+pub record Pushing (from next all : List ℕ) (at : Progress) (tag : ℕ) (here : Progress) : Type 0 where
+  pub entries-fall : Chain from next tag
+  pub pushable : Pushable (chain from next tag) here
+  pub rest : (r : Progress) → Pushed (chain from next tag) here r → Pushed all at r
+
+module _ (from next all : List ℕ) (at : Progress) (tag : ℕ) (here′ : Progress) (h : Pushing from next all at tag here′) where
+  -- none is left
+  pub pushing-done : tag ≡ 0 → Pushed all at here′
+  pushing-done none =
+      h .rest here′ (subst (λ (t : ℕ). Pushed (chain from next t) here′ here′) (sym none) (pushed-none here′))
+
+  module _ (opened : 0 < tag) where
+    abbrev e : ℕ
+    e = tag - 1
+
+    is : tag ≡ suc e
+    is = omega arith
+
+    falls : Chain from next (suc e)
+    falls = subst (Chain from next) is (h .entries-fall)
+
+    list : chain from next tag ≡ getD from e 0 ∷ chain from next (getD next e 0)
+    list = ap (chain from next) is ∙ chain-more from next e falls
+
+    pushable : Pushable (getD from e 0 ∷ chain from next (getD next e 0)) here′
+    pushable = subst (λ (ps : List ℕ). Pushable ps here′) list (h .pushable)
+
+    -- the entry's predecessor can be pushed
+    pub pushing-block : Stacked (entries (here′ .worklist)) × (getD from e 0 < largestBlocks)
+    pushing-block = (pushable .stacked, pushable .below (getD from e 0) (here refl))
+
+    -- the count does not overflow
+    pub pushing-count : here′ .pushes + 1 < 2 ^ 32
+    pushing-count = omega (arith, pushable .counted)
+
+    -- the entry stands in both tables
+    pub pushing-entry : (e < length from) × (e < length next)
+    pushing-entry =
+        let x = falls .froms in
+        let y = falls .nexts in
+        (omega arith, omega arith)
+
+    -- the next one stands before it
+    pub pushing-less : getD next e 0 < tag
+    pushing-less = let l = falls .falls e (omega arith) in omega arith
+
+    pub pushing-more : (next′ : Progress) → One (getD from e 0) here′ next′ → Pushing from next all at (getD next e 0) next′
+    pushing-more next′ one =
+        record {
+          entries-fall = chain-behind from next e falls;
+          pushable = pushable-more (getD from e 0) (chain from next (getD next e 0)) here′ next′ one pushable;
+          rest =
+              λ r pushed.
+              h .rest r
+              (subst (λ (ps : List ℕ). Pushed ps here′ r) (sym list)
+              (pushed-more (getD from e 0) (chain from next (getD next e 0)) here′ next′ r one pushed));
+        }
+
+-- ALL BLOCKS. In a list without repetitions no member stands behind itself,
+nodup-behind : (l : List ℕ) (i : ℕ) → List·Nodup l → i < length l → getD l i 0 ∈ drop (suc i) l → ⊥
+nodup-behind [] i d h m = absurd (omega arith)
+nodup-behind (x ∷ l) zero d h m = nodup-cons .0 d .0 ∣ m ∣₁
+nodup-behind (x ∷ l) (suc i) d h m = nodup-behind l i (nodup-cons .0 d .1) (omega arith) m
+
+-- so pushing it puts it on top of those behind it.
+push-front : (l : List ℕ) (i : ℕ) → List·Nodup l → i < length l → moveToTop (getD l i 0) (drop (suc i) l) ≡ drop i l
+push-front l i d h =
+    ap (λ (r : List ℕ). getD l i 0 ∷ r) (remove-absent (getD l i 0) (drop (suc i) l) (nodup-behind l i d h))
+    ∙ sym (drop-cons l i 0 h)
+
+module _ (order : List ℕ) (count : ℕ) (fits : count ≤ length order) (h : Stacked (take count order)) where
+  abbrev blocks : List ℕ
+  blocks = take count order
+
+  long : length blocks ≡ count
+  long = length-take-le count order fits
+
+  -- none is pushed at the start
+  pub starting-none : drop count blocks ≡ []
+  starting-none = ap (λ (n : ℕ). drop n blocks) (sym long) ∙ drop-length blocks
+
+  module _ (i : ℕ) (opened : 0 < i) (le : i ≤ count) where
+    at-index : getD blocks (i - 1) 0 ≡ getD order (i - 1) 0
+    at-index = getD-take count order (i - 1) 0 (omega arith)
+
+    -- the next block can be pushed
+    pub starting-below : getD order (i - 1) 0 < largestBlocks
+    starting-below =
+        subst (λ (x : ℕ). x < largestBlocks) at-index
+        (h .below (getD blocks (i - 1) 0) (getD-∈ blocks (i - 1) 0 (omega (arith, long))))
+
+    -- and goes on top of those of higher indices
+    pub starting-more : moveToTop (getD order (i - 1) 0) (drop i blocks) ≡ drop (i - 1) blocks
+    starting-more =
+        let is : i ≡ suc (i - 1) = omega arith in
+        ap (λ (x : ℕ). moveToTop x (drop i blocks)) (sym at-index)
+        ∙ ap (λ (n : ℕ). moveToTop (getD blocks (i - 1) 0) (drop n blocks)) is
+        ∙ push-front blocks (i - 1) (h .once) (omega (arith, long))

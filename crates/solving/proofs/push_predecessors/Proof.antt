@@ -1,0 +1,74 @@
+-- `solving::push_predecessors` meets its contract.
+use borrow.Author.Needs.{needs}
+use native.Mathlib.Omega.{arith}
+use mathlib.Core.Path.{refl}
+use lib.ListN.{getD}
+use Rattle.solving.specs.Chains.{chain}
+use Rattle.solving.proofs.Pushing.{Pushing, pushing-done, pushing-block, pushing-count, pushing-entry, pushing-less, pushing-more}
+use Rattle.solving.proofs.push_predecessors.Statement.{statement}
+use Rattle.solving.proofs.push_predecessors.Tie as tie
+
+abbrev Inv-loop : tie.InvT-loop
+Inv-loop first from next b at worklist₀ pushes₀ tag₀ worklist pushes tag = Pushing from next (chain from next (getD first b 0)) at tag (record { worklist = worklist; visits = at .visits; pushes = pushes })
+
+abbrev μ-loop : tie.MeasureT-loop
+μ-loop first from next b at worklist₀ pushes₀ tag₀ worklist pushes tag = tag
+
+mul-tag : tie.Need-mul-tag Inv-loop μ-loop
+mul-tag c = search needs
+
+shared-slice-read-tag : tie.Need-shared-slice-read-tag Inv-loop μ-loop
+shared-slice-read-tag c = search needs
+
+loop-holds : tie.Need-loop-holds Inv-loop μ-loop
+loop-holds c = record { entries-fall = c .before .before .before .before .before .pre .1; pushable = c .before .before .before .before .before .pre .2; rest = λ r h. h }
+
+sub-entry : tie.Need-sub-entry Inv-loop μ-loop
+sub-entry c = search needs
+
+mul-push : tie.Need-mul-push Inv-loop μ-loop
+mul-push c = omega (arith, pushing-entry _ _ _ _ _ _ (c .before .loop .inv) (c .loop-test .taken))
+
+shared-slice-read-push : tie.Need-shared-slice-read-push Inv-loop μ-loop
+shared-slice-read-push c = omega (arith, pushing-entry _ _ _ _ _ _ (c .before .before .loop .inv) (c .before .loop-test .taken))
+
+push-requires : tie.Need-push-requires Inv-loop μ-loop
+push-requires c κs = pushing-block _ _ _ _ _ _ (c .before .before .loop .inv) (c .before .loop-test .taken)
+
+add-pushes : tie.Need-add-pushes Inv-loop μ-loop
+add-pushes c = omega (arith, pushing-count _ _ _ _ _ _ (c .before .before .before .loop .inv) (c .before .before .loop-test .taken))
+
+mul-tag-2 : tie.Need-mul-tag-2 Inv-loop μ-loop
+mul-tag-2 c = omega (arith, pushing-entry _ _ _ _ _ _ (c .before .before .before .loop .inv) (c .before .before .loop-test .taken))
+
+shared-slice-read-tag-2 : tie.Need-shared-slice-read-tag-2 Inv-loop μ-loop
+shared-slice-read-tag-2 c = omega (arith, pushing-entry _ _ _ _ _ _ (c .before .before .before .before .loop .inv) (c .before .before .before .loop-test .taken))
+
+loop-less : tie.Need-loop-less Inv-loop μ-loop
+loop-less c = pushing-less _ _ _ _ _ _ (c .before .before .before .before .loop .inv) (c .before .before .before .loop-test .taken)
+
+loop-again : tie.Need-loop-again Inv-loop μ-loop
+loop-again c = pushing-more _ _ _ _ _ _ (c .before .before .before .before .loop .inv) (c .before .before .before .loop-test .taken) _ (record { left = c .before .push .ensures .0; stacked = c .before .push .ensures .1; visits = refl; pushes = refl })
+
+returns : tie.Need-returns Inv-loop μ-loop
+returns c = pushing-done _ _ _ _ _ _ (c .before .loop .inv) (omega arith)
+
+pub push-predecessors-spec : {M : Type 1} → statement M
+push-predecessors-spec =
+    tie.close
+    (tie.spec
+    Inv-loop
+    μ-loop
+    mul-tag
+    shared-slice-read-tag
+    loop-holds
+    sub-entry
+    mul-push
+    shared-slice-read-push
+    push-requires
+    add-pushes
+    mul-tag-2
+    shared-slice-read-tag-2
+    loop-less
+    loop-again
+    returns)

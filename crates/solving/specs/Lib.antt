@@ -1,0 +1,4 @@
+pub mod Chains
+pub mod Progress
+pub mod Tables
+pub mod Bounds
