@@ -1,0 +1,4 @@
+pub mod Operands
+pub mod InRows
+pub mod Instructions
+pub mod BlockSets
