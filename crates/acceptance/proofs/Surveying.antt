@@ -12,12 +12,17 @@ use Rattle.rules.specs.Graph.{reachable}
 use Rattle.rules.specs.Refusals.{firstOf, fileRefusals}
 use Rattle.rules.specs.Services.{isAccepted}
 use Rattle.rules.specs.declared.Verdict.{Verdict}
+use Rattle.acceptance.specs.declared.survey.BlockCounts.{BlockCounts}
 use Rattle.lists.specs.Tests.{and-intro, chosen, left-out}
 use Rattle.checks.specs.Definitions.{notedAll}
 use Rattle.graph.specs.Blocks.{blockTable}
 use Rattle.graph.specs.Tables.{tables, indexTable, Numbered}
 use Rattle.acceptance.specs.Stages.{recordRefusals, functionRefusals, walkRefusals, recordsPass, functionPasses}
 use Rattle.acceptance.specs.Survey.{SurveyTables, surveyTables, Surveyed, verdict-records, verdict-function, verdict-walk}
+
+-- no block is counted
+abbrev none : BlockCounts
+none = record { all = 0; reachable = 0 }
 
 not-left : (a b : Bool) → T (not a) → T (not (a && b))
 not-left true b h = absurd h
@@ -49,10 +54,11 @@ module _ (s counts places order index stack next : List ℕ) (v : Verdict) where
   unwalked :
       T (not (functionPasses s)) → (back : List ℕ)
       → back ≡ elim (recordsPass s) [ true ↦ notedAll counts (records s) | false ↦ counts ] → v ≡ firstOf (fileRefusals s)
-      → Surveyed s lent (surveyTables back places order index stack next) v 0
+      → Surveyed s lent (surveyTables back places order index stack next) v none
   unwalked n back noted says =
       record {
         says = says;
+        all-counted = sym (left-out (functionPasses s) (length (functionIn s .blocks)) 0 n);
         counted = sym (left-out (functionPasses s) (length (reachable (functionIn s))) 0 n);
         counts = noted;
         places = sym (left-out (functionPasses s) (padded (length places) (blockTable s)) places n);
@@ -63,7 +69,7 @@ module _ (s counts places order index stack next : List ℕ) (v : Verdict) where
       }
 
   -- its records are at fault
-  pub ends-at-records : T (not (recordsPass s)) → v ≡ firstOf (recordRefusals s) → Surveyed s lent lent v 0
+  pub ends-at-records : T (not (recordsPass s)) → v ≡ firstOf (recordRefusals s) → Surveyed s lent lent v none
   ends-at-records n says =
       unwalked (not-left (recordsPass s) ofFunction n) counts
       (sym (left-out (recordsPass s) (notedAll counts (records s)) counts n)) (says ∙ sym (verdict-records s n))
@@ -74,19 +80,20 @@ module _ (s counts places order index stack next : List ℕ) (v : Verdict) where
 
     -- its function is
     pub ends-at-function :
-        T (not ofFunction) → v ≡ firstOf (functionRefusals s) → Surveyed s lent (surveyTables back places order index stack next) v 0
+        T (not ofFunction) → v ≡ firstOf (functionRefusals s) → Surveyed s lent (surveyTables back places order index stack next) v none
     ends-at-function n says = unwalked (not-right (recordsPass s) ofFunction n) back counted (says ∙ sym (verdict-function s p n))
 
     -- it was walked
     pub ends-with-walk :
-        T ofFunction → v ≡ firstOf (walkRefusals s) → (places′ order′ index′ stack′ next′ : List ℕ) (count : ℕ)
-        → places′ ≡ padded (length places) (blockTable s)
-        → Numbered (functionIn s) (tables order index stack next 0 0) (tables order′ index′ stack′ next′ 0 count)
-        → Surveyed s lent (surveyTables back places′ order′ index′ stack′ next′) v count
-    ends-with-walk q says places′ order′ index′ stack′ next′ count table walked =
+        T ofFunction → v ≡ firstOf (walkRefusals s) → (places′ order′ index′ stack′ next′ : List ℕ) (blocks : BlockCounts)
+        → blocks .all ≡ length (functionIn s .blocks) → places′ ≡ padded (length places) (blockTable s)
+        → Numbered (functionIn s) (tables order index stack next 0 0) (tables order′ index′ stack′ next′ 0 (blocks .reachable))
+        → Surveyed s lent (surveyTables back places′ order′ index′ stack′ next′) v blocks
+    ends-with-walk q says places′ order′ index′ stack′ next′ blocks all table walked =
         let passes = and-intro (recordsPass s) ofFunction p q in
         record {
           says = says ∙ sym (verdict-walk s p q);
+          all-counted = all ∙ sym (chosen (functionPasses s) (length (functionIn s .blocks)) 0 passes);
           counted = walked .count ∙ sym (chosen (functionPasses s) (length (reachable (functionIn s))) 0 passes);
           counts = counted;
           places = table ∙ sym (chosen (functionPasses s) (padded (length places) (blockTable s)) places passes);

@@ -14,6 +14,7 @@ use Rattle.rules.specs.Graph.{reachable}
 use Rattle.rules.specs.Refusals.{firstOf, definedOnce, sound, markedContext, fileRefusals}
 use Rattle.rules.specs.Services.{isAccepted}
 use Rattle.rules.specs.declared.Verdict.{Verdict}
+use Rattle.acceptance.specs.declared.survey.BlockCounts.{BlockCounts}
 use Rattle.lists.specs.Tests.{test-elim, and-left, and-right, and-intro, is-true, chosen, left-out}
 use Rattle.checks.specs.Definitions.{notedAll, Countable}
 use Rattle.graph.specs.Zeros.{zeros-at, length-padded, padded-own}
@@ -52,9 +53,10 @@ pub record BlankTables (t : SurveyTables) : Type 0 where
 
 -- what is handed back. Definitions are counted where refusals 2 to 5 let the file pass, and it is walked where 6 and 7 do
 -- too; a table that is not come to is as it was lent.
-pub record Surveyed (s : List ℕ) (lent back : SurveyTables) (verdict : Verdict) (count : ℕ) : Type 0 where
+pub record Surveyed (s : List ℕ) (lent back : SurveyTables) (verdict : Verdict) (blocks : BlockCounts) : Type 0 where
   pub says : verdict ≡ firstOf (fileRefusals s)
-  pub counted : count ≡ elim (functionPasses s) [ true ↦ length (reachable (functionIn s)) | false ↦ 0 ]
+  pub all-counted : blocks .all ≡ elim (functionPasses s) [ true ↦ length (functionIn s .blocks) | false ↦ 0 ]
+  pub counted : blocks .reachable ≡ elim (functionPasses s) [ true ↦ length (reachable (functionIn s)) | false ↦ 0 ]
   pub counts : back .counts ≡ elim (recordsPass s) [ true ↦ notedAll (lent .counts) (records s) | false ↦ lent .counts ]
   pub places : back .places ≡ elim (functionPasses s) [ true ↦ padded (length (lent .places)) (blockTable s) | false ↦ lent .places ]
   pub order : back .order ≡ elim (functionPasses s) [ true ↦ padded (length (lent .order)) (reachable (functionIn s)) | false ↦ lent .order ]
@@ -168,8 +170,8 @@ module _ {s : List ℕ} (r : Readable s) where
 
 -- So are those of an accepted file.
 pub surveyed-walked :
-    {s : List ℕ} {lent back : SurveyTables} {verdict : Verdict} {count : ℕ} → BlankTables lent → Surveyed s lent back verdict count
-    → T (isAccepted verdict) → Walked s (back .places) (back .order) count
+    {s : List ℕ} {lent back : SurveyTables} {verdict : Verdict} {blocks : BlockCounts} → BlankTables lent
+    → Surveyed s lent back verdict blocks → T (isAccepted verdict) → Walked s (back .places) (back .order) (blocks .reachable)
 surveyed-walked {s} {lent} {back} b g a =
     let f = functionIn s in
     let passes = accepted-passes s (subst (λ v. T (isAccepted v)) (g .says) a) .0 in

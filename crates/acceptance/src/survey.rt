@@ -21,10 +21,16 @@ use graph::places::places_of;
 use graph::walk::post_order;
 use rules::Verdict;
 
-// What is said of a file, and how many blocks are reachable if it was walked.
+// How many blocks a file has, and how many of them are reachable.
+pub struct BlockCounts {
+    pub all: usize,
+    pub reachable: usize,
+}
+
+// What is said of a file, and its blocks counted if it was walked.
 pub struct SurveyAnswer {
     pub verdict: Verdict,
-    pub reachable: usize,
+    pub blocks: BlockCounts,
 }
 
 // Refusal 8: what is wrong with the reachable blocks.
@@ -38,7 +44,7 @@ pub fn walk_verdict(s: &[u8], places: &[usize], order: &[usize], count: usize) -
     Verdict::Accepted
 }
 
-// The block table and the walk of a file that refusals 2 to 5 let pass. Answers how many blocks are reachable.
+// The block table and the walk of a file that refusals 2 to 5 let pass. Its blocks are counted on the way.
 fn walk_blocks(
     s: &[u8],
     places: &mut [usize],
@@ -46,12 +52,13 @@ fn walk_blocks(
     index: &mut [usize],
     stack: &mut [usize],
     next: &mut [usize],
-) -> usize
+) -> BlockCounts
     requires { ⌜ Readable (now s) × Blank (suc largestBlocks) (now places) × Blank largestBlocks (now order) × Blank largestBlocks (now index) × Blank largestBlocks (now stack) × Blank largestBlocks (now next) ⌝ }
-    ensures { λ r. ⌜ (now (places .exit) ≡ padded (length (now (places .entry))) (blockTable (now (s .entry)))) × Numbered (functionIn (now (s .entry))) (tables (now (order .entry)) (now (index .entry)) (now (stack .entry)) (now (next .entry)) 0 0) (tables (now (order .exit)) (now (index .exit)) (now (stack .exit)) (now (next .exit)) 0 r) ⌝ }
+    ensures { λ r. ⌜ (r .all ≡ length (functionIn (now (s .entry)) .blocks)) × (now (places .exit) ≡ padded (length (now (places .entry))) (blockTable (now (s .entry)))) × Numbered (functionIn (now (s .entry))) (tables (now (order .entry)) (now (index .entry)) (now (stack .entry)) (now (next .entry)) 0 0) (tables (now (order .exit)) (now (index .exit)) (now (stack .exit)) (now (next .exit)) 0 (r .reachable)) ⌝ }
 {
-    places_of(s, 2, places);
-    post_order(s, places, order, index, stack, next)
+    let all = places_of(s, 2, places);
+    let reachable = post_order(s, places, order, index, stack, next);
+    BlockCounts { all, reachable }
 }
 
 // Refusals 2 to 8, and the tables as far as the file was read.
@@ -65,25 +72,31 @@ pub fn survey(
     next: &mut [usize],
 ) -> SurveyAnswer
     requires { ⌜ BlankTables (surveyTables (now counts) (now places) (now order) (now index) (now stack) (now next)) ⌝ }
-    ensures { λ r. ⌜ Surveyed (now (s .entry)) (surveyTables (now (counts .entry)) (now (places .entry)) (now (order .entry)) (now (index .entry)) (now (stack .entry)) (now (next .entry))) (surveyTables (now (counts .exit)) (now (places .exit)) (now (order .exit)) (now (index .exit)) (now (stack .exit)) (now (next .exit))) (r .verdict) (r .reachable) ⌝ }
+    ensures { λ r. ⌜ Surveyed (now (s .entry)) (surveyTables (now (counts .entry)) (now (places .entry)) (now (order .entry)) (now (index .entry)) (now (stack .entry)) (now (next .entry))) (surveyTables (now (counts .exit)) (now (places .exit)) (now (order .exit)) (now (index .exit)) (now (stack .exit)) (now (next .exit))) (r .verdict) (r .blocks) ⌝ }
 {
     let of_records = records_verdict(s);
     if !is_accepted(of_records) {
         return SurveyAnswer {
             verdict: of_records,
-            reachable: 0,
+            blocks: BlockCounts {
+                all: 0,
+                reachable: 0,
+            },
         };
     }
     let of_function = function_verdict(s, counts);
     if !is_accepted(of_function) {
         return SurveyAnswer {
             verdict: of_function,
-            reachable: 0,
+            blocks: BlockCounts {
+                all: 0,
+                reachable: 0,
+            },
         };
     }
-    let reachable = walk_blocks(s, places, order, index, stack, next);
+    let blocks = walk_blocks(s, places, order, index, stack, next);
     SurveyAnswer {
-        verdict: walk_verdict(s, places, order, reachable),
-        reachable,
+        verdict: walk_verdict(s, places, order, blocks.reachable),
+        blocks,
     }
 }

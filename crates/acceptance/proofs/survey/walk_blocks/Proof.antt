@@ -1,7 +1,8 @@
 -- `acceptance::survey::walk_blocks` meets its contract.
-use Rattle.graph.specs.Zeros.{padded-own}
-use Rattle.graph.specs.Blocks.{blockTable}
 use Rattle.graph.specs.Room.{table-room, walk-lent}
+use Rattle.graph.specs.Zeros.{padded-own}
+use Rattle.graph.specs.Blocks.{blockTable, length-blockPlaces}
+use mathlib.Core.Path.{_∙_}
 use borrow.Author.Needs.{needs}
 use Rattle.acceptance.proofs.survey.walk_blocks.Statement.{statement}
 use Rattle.acceptance.proofs.survey.walk_blocks.Tie as tie
@@ -28,7 +29,7 @@ same-length-5 : tie.Need-same-length-5
 same-length-5 c = search needs
 
 returns : tie.Need-returns
-returns c = (c .before .before .before .before .before .before .before .before .before .before .before .before .before .before .before .before .places-of .ensures .1, c .before .before .before .before .before .before .before .before .post-order .ensures)
+returns c = (c .before .before .before .before .before .before .before .before .before .before .before .before .before .before .before .before .places-of .ensures .0 ∙ length-blockPlaces (c .before .before .before .before .before .before .before .before .before .before .before .before .before .before .before .before .before .before .before .before .before .before .before .before .args .s .now), c .before .before .before .before .before .before .before .before .before .before .before .before .before .before .before .before .places-of .ensures .1, c .before .before .before .before .before .before .before .before .post-order .ensures)
 
 pub walk-blocks-spec : {M : Type 1} → statement M
 walk-blocks-spec =
