@@ -63,6 +63,23 @@ firstOf-append (r ∷ rs) ys h =
     go refuses later true = sym (left-out (isAccepted (r .why)) (firstOf ys) (r .why) refuses)
     go refuses later false = later
 
+-- One refusal more behind a verdict: it is given where the verdict lets the call pass and it applies.
+abbrev pub thenRefused : Verdict → Refusal → Verdict
+thenRefused v r = elim (isAccepted v) [ true ↦ firstOf (r ∷ []) | false ↦ v ]
+
+pub then-kept : (v : Verdict) (r : Refusal) → isAccepted v ≡ false → thenRefused v r ≡ v
+then-kept v r e = ap (λ b. elim b as (λ _. Verdict) [ true ↦ firstOf (r ∷ []) | false ↦ v ]) e
+
+pub then-asked : (v : Verdict) (r : Refusal) {b : Bool} → isAccepted v ≡ true → r .applies ≡ b → thenRefused v r ≡ elim b [ true ↦ r .why | false ↦ verdict.Accepted ]
+then-asked v r e a =
+    ap (λ b. elim b as (λ _. Verdict) [ true ↦ firstOf (r ∷ []) | false ↦ v ]) e
+    ∙ ap (λ b. elim b as (λ _. Verdict) [ true ↦ r .why | false ↦ verdict.Accepted ]) a
+
+-- So is the last of a list that starts with the refusals of a file.
+pub file-then : (s : List ℕ) (r : Refusal) → firstOf (fileRefusals s ++ (r ∷ [])) ≡ thenRefused (firstOf (fileRefusals s)) r
+unfolding fileRefusals
+file-then s r = firstOf-append (fileRefusals s) (r ∷ []) tt
+
 -- Where a list lets a file pass, none of it applies.
 pub passed-none : (xs : List Refusal) → T (all says-no xs) → T (isAccepted (firstOf xs)) → T (all (λ r. not (r .applies)) xs)
 passed-none [] h p = tt

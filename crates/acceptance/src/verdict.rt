@@ -1,10 +1,10 @@
 // What is said of a file before and without the walk: refusals 2 to 5, of its records, and 6 and 7, of its function.
 ghost use mathlib.Core.Path.{_≡_};
 ghost use Rattle.rules.specs.Records.{records};
-ghost use Rattle.rules.specs.Refusals.{refusalNumber, firstOf};
+ghost use Rattle.rules.specs.Refusals.{refusalNumber, firstOf, _when_};
 ghost use Rattle.rules.specs.Services.{isAccepted};
 ghost use Rattle.checks.specs.Definitions.{notedAll, Countable};
-ghost use Rattle.acceptance.specs.Stages.{recordRefusals, functionRefusals};
+ghost use Rattle.acceptance.specs.Stages.{thenRefused, recordRefusals, functionRefusals};
 use checks::counts::too_many;
 use checks::definitions::not_defined_once;
 use checks::numbers::not_in_file;
@@ -38,6 +38,19 @@ pub fn is_accepted(v: Verdict) -> bool
     ensures { λ r. ⌜ r ≡ isAccepted v ⌝ }
 {
     refusal_number(v) == 0
+}
+
+// One refusal more behind a verdict: it is given where the verdict lets the call pass and it applies.
+pub fn or_refused(v: Verdict, why: Verdict, applies: bool) -> Verdict
+    ensures { λ r. ⌜ r ≡ thenRefused v (why when applies) ⌝ }
+{
+    if !is_accepted(v) {
+        return v;
+    }
+    if applies {
+        return why;
+    }
+    Verdict::Accepted
 }
 
 // Refusals 2 to 5: what is wrong with the records of a file.

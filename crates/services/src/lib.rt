@@ -1,2 +1,4 @@
 // The public services. Each takes any bytes, owns the tables that it needs, and asks nothing of its caller.
 pub mod check;
+mod clearing;
+pub mod liveness;
