@@ -72,26 +72,29 @@ module _ (s : List ℕ) (q b : ℕ) (ins : List ℕ) (k : q ≤ recordCount s) w
         ∙ h .rest
 
     module _ (opened : 0 < e .tag) where
+      -- the target
       abbrev t : ℕ
       t = e .tag - 1
 
       is : e .tag ≡ suc t
       is = omega arith
 
+      -- the targets behind it
       abbrev others : List ℕ
       others = named 7 (between s (e .behind) q)
 
       taken : (u : ℕ) → u ∈ (t ∷ others) → HasRow ins u
       taken = subst (λ (tag : ℕ). (u : ℕ) → u ∈ targetsFrom s q tag (e .behind) → HasRow ins u) is (h .targets)
 
-      -- the target has a row
+      -- it has a row
       pub joining-row : HasRow ins t
       joining-row = taken t (here refl)
 
+      -- its record stands before the end
       pub joining-inside : e .behind ≤ q
       joining-inside = h .inside (λ z. omega arith)
 
-      -- the next edge is found behind it
+      -- when it is joined, those behind it are left
       pub joining-more :
           (outs′ : List ℕ) → rows outs′ ≡ update b (union (rows outs b) (rows ins t)) (rows outs)
           → (e′ : NextEdge) → e′ ≡ edgeFrom s (e .behind) q → Joining s q b ins end outs′ e′
@@ -100,6 +103,7 @@ module _ (s : List ℕ) (q b : ℕ) (ins : List ℕ) (k : q ≤ recordCount s) w
           (joined-more b t others (rows ins) (rows outs) (rows outs′) same
           ∙ ap (λ (tag : ℕ). joinedInto b (rows ins) (targetsFrom s q tag (e .behind)) (rows outs)) (sym is) ∙ h .rest)
 
+      -- which are fewer
       pub joining-less :
           (e′ : NextEdge) → e′ ≡ edgeFrom s (e .behind) q
           → length (targetsFrom s q (e′ .tag) (e′ .behind)) < length (targetsFrom s q (e .tag) (e .behind))

@@ -1,7 +1,6 @@
 -- Pushing the blocks of a list, one entry after the other; and all blocks by index, from the highest down.
-use Prim.Native.Nat.{ℕ, zero, suc, _+_, _-_, _<_, _≤_, _^_}
+use Prim.Native.Nat.{ℕ, zero, suc, _+_, _-_, _<_, _≤_}
 use native.Mathlib.Omega.{arith}
-use native.Mathlib.Numerals.{add-one}
 use mathlib.Core.Path.{_≡_, refl, sym, ap, subst, _∙_}
 use mathlib.Core.List.{List, [], _∷_, List·Nodup, nodup-cons}
 use lib.ListN.{length, getD, take, drop}
@@ -34,6 +33,7 @@ pushed-more p ps at at′ r one h =
       pushes = omega (arith, h .pushes, one .pushes);
     }
 
+-- which can be made
 pushable-more : (p : ℕ) (ps : List ℕ) (at at′ : Progress) → One p at at′ → Pushable (p ∷ ps) at → Pushable ps at′
 pushable-more p ps at at′ one h =
     record {
@@ -48,6 +48,17 @@ pub record Pushing (from next all : List ℕ) (at : Progress) (tag : ℕ) (here 
   pub pushable : Pushable (chain from next tag) here
   pub rest : (r : Progress) → Pushed (chain from next tag) here r → Pushed all at r
 
+-- all of it is left at the start
+pub pushing-start :
+    (from next : List ℕ) (tag : ℕ) (at : Progress) → Chain from next tag → Pushable (chain from next tag) at
+    → Pushing from next (chain from next tag) at tag (record { worklist = at .worklist; visits = at .visits; pushes = at .pushes + 0 })
+pushing-start from next tag at falls h =
+    record {
+      entries-fall = falls;
+      pushable = record { stacked = h .stacked; below = h .below; counted = omega (arith, h .counted) };
+      rest = λ r pushed. record { left = pushed .left; visits = pushed .visits; pushes = omega (arith, pushed .pushes) };
+    }
+
 module _ (from next all : List ℕ) (at : Progress) (tag : ℕ) (here′ : Progress) (h : Pushing from next all at tag here′) where
   -- none is left
   pub pushing-done : tag ≡ 0 → Pushed all at here′
@@ -55,6 +66,7 @@ module _ (from next all : List ℕ) (at : Progress) (tag : ℕ) (here′ : Progr
       h .rest here′ (subst (λ (t : ℕ). Pushed (chain from next t) here′ here′) (sym none) (pushed-none here′))
 
   module _ (opened : 0 < tag) where
+    -- the entry
     abbrev e : ℕ
     e = tag - 1
 
@@ -64,19 +76,17 @@ module _ (from next all : List ℕ) (at : Progress) (tag : ℕ) (here′ : Progr
     falls : Chain from next (suc e)
     falls = subst (Chain from next) is (h .entries-fall)
 
+    -- its predecessor stands in front of the others,
     list : chain from next tag ≡ getD from e 0 ∷ chain from next (getD next e 0)
     list = ap (chain from next) is ∙ chain-more from next e falls
 
+    -- and all of them can be pushed
     pushable : Pushable (getD from e 0 ∷ chain from next (getD next e 0)) here′
     pushable = subst (λ (ps : List ℕ). Pushable ps here′) list (h .pushable)
 
-    -- the entry's predecessor can be pushed
+    -- so it can
     pub pushing-block : Stacked (entries (here′ .worklist)) × (getD from e 0 < largestBlocks)
     pushing-block = (pushable .stacked, pushable .below (getD from e 0) (here refl))
-
-    -- the count does not overflow
-    pub pushing-count : here′ .pushes + 1 < 2 ^ 32
-    pushing-count = omega (arith, pushable .counted)
 
     -- the entry stands in both tables
     pub pushing-entry : (e < length from) × (e < length next)
@@ -89,6 +99,7 @@ module _ (from next all : List ℕ) (at : Progress) (tag : ℕ) (here′ : Progr
     pub pushing-less : getD next e 0 < tag
     pushing-less = let l = falls .falls e (omega arith) in omega arith
 
+    -- when it is pushed, those behind it are left
     pub pushing-more : (next′ : Progress) → One (getD from e 0) here′ next′ → Pushing from next all at (getD next e 0) next′
     pushing-more next′ one =
         record {
@@ -114,6 +125,7 @@ push-front l i d h =
     ∙ sym (drop-cons l i 0 h)
 
 module _ (order : List ℕ) (count : ℕ) (fits : count ≤ length order) (h : Stacked (take count order)) where
+  -- the blocks by index
   abbrev blocks : List ℕ
   blocks = take count order
 
@@ -124,20 +136,19 @@ module _ (order : List ℕ) (count : ℕ) (fits : count ≤ length order) (h : S
   pub starting-none : drop count blocks ≡ []
   starting-none = ap (λ (n : ℕ). drop n blocks) (sym long) ∙ drop-length blocks
 
-  module _ (i : ℕ) (opened : 0 < i) (le : i ≤ count) where
-    at-index : getD blocks (i - 1) 0 ≡ getD order (i - 1) 0
-    at-index = getD-take count order (i - 1) 0 (omega arith)
+  at-index : (j : ℕ) → j < count → getD blocks j 0 ≡ getD order j 0
+  at-index j l = getD-take count order j 0 l
 
-    -- the next block can be pushed
-    pub starting-below : getD order (i - 1) 0 < largestBlocks
-    starting-below =
-        subst (λ (x : ℕ). x < largestBlocks) at-index
-        (h .below (getD blocks (i - 1) 0) (getD-∈ blocks (i - 1) 0 (omega (arith, long))))
+  -- every block by index can be pushed,
+  pub starting-below : (j : ℕ) → j < count → getD order j 0 < largestBlocks
+  starting-below j l =
+      subst (λ (x : ℕ). x < largestBlocks) (at-index j l)
+      (h .below (getD blocks j 0) (getD-∈ blocks j 0 (omega (arith, long))))
 
-    -- and goes on top of those of higher indices
-    pub starting-more : moveToTop (getD order (i - 1) 0) (drop i blocks) ≡ drop (i - 1) blocks
-    starting-more =
-        let is : i ≡ suc (i - 1) = omega arith in
-        ap (λ (x : ℕ). moveToTop x (drop i blocks)) (sym at-index)
-        ∙ ap (λ (n : ℕ). moveToTop (getD blocks (i - 1) 0) (drop n blocks)) is
-        ∙ push-front blocks (i - 1) (h .once) (omega (arith, long))
+  -- and goes on top of those of higher indices
+  pub starting-more : (i : ℕ) → 0 < i → i ≤ count → moveToTop (getD order (i - 1) 0) (drop i blocks) ≡ drop (i - 1) blocks
+  starting-more i opened le =
+      let is : i ≡ suc (i - 1) = omega arith in
+      ap (λ (x : ℕ). moveToTop x (drop i blocks)) (sym (at-index (i - 1) (omega arith)))
+      ∙ ap (λ (n : ℕ). moveToTop (getD blocks (i - 1) 0) (drop n blocks)) is
+      ∙ push-front blocks (i - 1) (h .once) (omega (arith, long))

@@ -8,11 +8,11 @@ use mathlib.Core.List.{List, [], _∷_, List·Nodup}
 use lib.ListN.{length, take}
 use lib.Seq.{take-append-seam}
 use Rattle.rules.specs.Limits.{largestValues, largestBlocks, largestEdges}
-use Rattle.rules.specs.Lists.{empty, foldl, nothing, update, union, grew, padded}
+use Rattle.rules.specs.Lists.{empty, foldl, nothing, update, union, grew}
 use Rattle.rules.specs.Tree.{Function}
 use Rattle.rules.specs.File.{functionIn}
 use Rattle.rules.specs.Graph.{isMarked, reachable}
-use Rattle.rules.specs.Liveness.{State, start, after, through, joined, predecessors, bound, process}
+use Rattle.rules.specs.Liveness.{start, after, through, joined, predecessors, bound, process}
 use Rattle.lists.specs.Members.{_∈_}
 use Rattle.lists.specs.Sets.{Within}
 use Rattle.walks.specs.InFile.{reachable-in-file, length-reachable-le}
@@ -60,20 +60,25 @@ step-visited f c more = go (c .entries) more
     go [] e = absurd (true≢false e)
     go (b ∷ rest) e = visit-visited f c b rest
 
+-- THE FILE and its tables, as they are lent
 module _ {s places order : List ℕ} {count : ℕ} {first from next uses kills ins₀ outs₀ : List ℕ}
     (h : Solvable s places order count first from next uses kills ins₀ outs₀) where
   abbrev f : Function
   f = functionIn s
 
+  -- there is a block,
   some-block : 0 < length (f .blocks)
   some-block = some s places (h .walked .given)
 
+  -- the reachable ones are in the file,
   in-file : {b : ℕ} → b ∈ reachable f → b < length (f .blocks)
   in-file = reachable-in-file f (h .walked .given .inFile) some-block
 
+  -- and have a place on the worklist
   in-worklist : {b : ℕ} → b ∈ reachable f → b < largestBlocks
   in-worklist m = let l = in-file m in omega (arith, h .ruled .few .blocks)
 
+  -- the bound is a number that the counts have room for
   bound-fits : bound f ≤ largestBlocks + largestValues * largestEdges
   bound-fits = bound-le f (h .walked .given .inFile) some-block (h .ruled .few)
 
@@ -82,21 +87,23 @@ module _ {s places order : List ℕ} {count : ℕ} {first from next uses kills i
   blocks-listed =
       (λ i. take (h .walked .counted i) (h .walked .listed i)) ∙ take-append-seam (reachable f) _
 
-  -- and can be pushed;
+  -- can be pushed,
   pub start-requires : (count ≤ length order) × Stacked (take count order)
   start-requires = (
     omega (arith, h .walked .counted, ap length (h .walked .listed), length-padded-le (length order) (reachable f)),
     subst Stacked (sym blocks-listed) (record { once = reachable-nodup f; below = λ b m. in-worklist m }),
   )
 
+  -- and are counted;
   pub count-fits : count < 2 ^ 32
   count-fits =
       omega (arith, h .walked .counted, length-reachable-le f (h .walked .given .inFile) some-block, h .ruled .few .blocks)
 
+  -- zeros are empty sets
   zero-rows : {t : List ℕ} → Zeros t → rows t ≡ (λ _. nothing)
   zero-rows {t} z = ap rows z ∙ rows-zeros (length t)
 
-  -- with the tables of zeros they stand for the start of the process.
+  -- so at first they and the tables of zeros stand for the start of the process.
   pub start-stands :
       (w : Worklist) → entries w ≡ take count order
       → Stands ins₀ outs₀ (record { worklist = w; visits = 0; pushes = count }) (startTop f)
@@ -111,16 +118,19 @@ module _ {s places order : List ℕ} {count : ℕ} {first from next uses kills i
 
   -- AFTER SOME VISITS the tables and the worklist stand for the state after as many steps.
   module _ (ins outs : List ℕ) (at : Progress) (stands : Stands ins outs at (afterTop f (at .visits) (startTop f))) where
+    -- so many
     abbrev k : ℕ
     k = at .visits
 
+    -- that state
     abbrev state : Compact
     state = afterTop f k (startTop f)
 
-    -- its sets lie inside the marked values
+    -- it is document 01's, without the entries that no longer count,
     state-is : compact (after f k (start f)) ≡ state
     state-is = compact-after f k (start f) ∙ ap (afterTop f k) (compact-start f)
 
+    -- so its sets lie inside the marked values;
     pub live-tables : length ins ≡ length ins₀ → length outs ≡ length outs₀ → LiveTables f ins outs
     live-tables i o =
         let resumable = after-resumable f k (start f) (start-resumable f) in
@@ -137,10 +147,11 @@ module _ {s places order : List ℕ} {count : ℕ} {first from next uses kills i
               (ap (λ (c : Compact). c .outs) state-is ∙ sym (stands .live-out)) (resumable .outs-marked b);
         }
 
+    -- and all that are left to visit are reachable.
     reached : {b : ℕ} → b ∈ entries (at .worklist) → b ∈ reachable f
     reached {b} m = top-reachable f k (subst (λ (l : List ℕ). b ∈ l) (stands .left) m)
 
-    -- where none is left, this is the answer
+    -- Where none is left, this is the answer;
     pub solved :
         empty (entries (at .worklist)) ≡ true
         → (rows ins ≡ process f .ins) × (rows outs ≡ process f .outs) × (at .visits ≡ length (process f .visited)) × (at .pushes ≡ process f .pushes)
@@ -152,8 +163,9 @@ module _ {s places order : List ℕ} {count : ℕ} {first from next uses kills i
           stands .pushes ∙ ap (λ (c : Compact). c .pushes) final,
         )
 
+    -- where one is left,
     module _ (more : empty (entries (at .worklist)) ≡ false) where
-      -- a visit can be made
+      -- a visit can be made,
       pub ready : Ready f at
       ready =
           record {
@@ -176,7 +188,7 @@ module _ {s places order : List ℕ} {count : ℕ} {first from next uses kills i
                 );
           }
 
-      -- visits are fewer than the bound
+      -- for visits are fewer than the bound,
       visits-lt : at .visits < bound f
       visits-lt = go (state .entries) refl (ap empty (sym (stands .left)) ∙ more)
         where
@@ -185,11 +197,14 @@ module _ {s places order : List ℕ} {count : ℕ} {first from next uses kills i
           go (b ∷ rest) e n = omega (arith, stands .visits, top-visits-lt f k e)
 
       module _ (ins′ outs′ : List ℕ) (r : Progress) (stands′ : Stands ins′ outs′ r (stepTop f state)) where
+        -- and it is one visit more,
         one-more : r .visits ≡ suc k
         one-more = stands′ .visits ∙ step-visited f state (ap empty (sym (stands .left)) ∙ more) ∙ ap suc (sym (stands .visits))
 
+        -- of which fewer are left,
         pub solving-less : bound f - r .visits < bound f - at .visits
         solving-less = omega (arith, one-more, visits-lt)
 
+        -- and one step more.
         pub solving-more : Stands ins′ outs′ r (afterTop f (r .visits) (startTop f))
         solving-more = subst (λ (n : ℕ). Stands ins′ outs′ r (afterTop f n (startTop f))) (sym one-more) stands′

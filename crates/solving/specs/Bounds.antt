@@ -3,7 +3,7 @@
 use Prim.Native.Nat.{ℕ, _+_, _*_, _<_, _≤_}
 use native.Mathlib.Omega.{arith}
 use native.Mathlib.Nat.{mul-le-mul-left, mul-le-mul-right}
-use mathlib.Core.Path.{_≡_, subst, sym}
+use mathlib.Core.Path.{_≡_}
 use lib.ListN.{length}
 use lib.Dec.{T}
 use Rattle.rules.specs.Limits.{largestValues, largestBlocks, largestEdges}
@@ -14,7 +14,7 @@ use Rattle.rules.specs.Liveness.{predecessors, bound, process}
 use Rattle.rules.specs.Refusals.{numbersInFile}
 use Rattle.lists.specs.Members.{_∈_}
 use Rattle.walks.specs.InFile.{length-reachable-le}
-use Rattle.fixpoint.specs.Sums.{sum, sum-zero, sum-drop, count-le-length}
+use Rattle.fixpoint.specs.Sums.{sum-zero, sum-drop, count-le-length}
 use Rattle.fixpoint.specs.Edges.{edges-in-le-out}
 use Rattle.fixpoint.specs.Answer.{process-visits-le, process-pushes-le}
 use Rattle.graph.specs.Links.{reachableEdges}

@@ -23,21 +23,23 @@ joinedInto b ins ts outs = update b (union (outs b) (λ v. any (λ t. ins t v) t
 abbrev pub outNow : Function → ℕ → (ℕ → NumberSet) → (ℕ → NumberSet) → NumberSet
 outNow f b ins outs = union (outs b) (joined f ins b)
 
--- What the rule gives now was added to live-out and live-in of block b, and whether live-in grew is told.
+-- What the rule gives now was added to live-out and to live-in of block b, and it is told whether live-in grew.
 pub record Added (f : Function) (b : ℕ) (ins outs ins′ outs′ : ℕ → NumberSet) (told : Bool) : Type 0 where
+  -- first live-out gets what is live into the successors,
   pub live-out : outs′ ≡ update b (outNow f b ins outs) outs
+  -- then live-in what the rule gives from that
   pub live-in : ins′ ≡ update b (union (ins b) (through f b (outNow f b ins outs))) ins
   pub grown : told ≡ grew (length (f .values)) (ins b) (through f b (outNow f b ins outs))
 
--- PUSHES. Entries after these blocks were pushed, the first one first
+-- PUSHES. Entries when these blocks were pushed, the first of them first
 abbrev pub pushAll : List ℕ → List ℕ → List ℕ
 pushAll ps l = foldl (λ (r : List ℕ) (p : ℕ). moveToTop p r) l ps
 
--- These blocks can be pushed: the worklist has room, and the count does not overflow.
+-- These blocks can be pushed: the worklist has room for them, and so has the count.
 pub record Pushable (ps : List ℕ) (at : Progress) : Type 0 where
   pub stacked : Stacked (entries (at .worklist))
   pub below : (p : ℕ) → p ∈ ps → p < largestBlocks
-  pub counted : at .pushes + length ps < 2 ^ 32
+  pub counted : at .pushes + length ps < 2 ^ 31
 
 -- They were pushed, and nothing else was done.
 pub record Pushed (ps : List ℕ) (at r : Progress) : Type 0 where
@@ -49,6 +51,6 @@ pub record Pushed (ps : List ℕ) (at r : Progress) : Type 0 where
 pub record Stands (ins outs : List ℕ) (at : Progress) (c : Compact) : Type 0 where
   pub live-in : rows ins ≡ c .ins
   pub live-out : rows outs ≡ c .outs
-  pub left : entries (at .worklist) ≡ c .entries
-  pub visits : at .visits ≡ length (c .visited)
+  pub left : entries (at .worklist) ≡ c .entries  -- the blocks still to visit, top first
+  pub visits : at .visits ≡ length (c .visited)  -- the code counts what the definition lists
   pub pushes : at .pushes ≡ c .pushes

@@ -15,7 +15,7 @@ ghost use Rattle.rows.specs.Rows.{rows, HasRow};
 ghost use Rattle.worklist.specs.Entries.{entries, Stacked};
 ghost use Rattle.solving.specs.Chains.{chain, Chain};
 ghost use Rattle.solving.specs.Progress.{joinedInto, Added, Pushable, Pushed, Stands};
-ghost use Rattle.solving.specs.Tables.{Ruled, LiveTables, Chained, Ready, Solvable};
+ghost use Rattle.solving.specs.Tables.{Ruled, LiveTables, Listed, Ready, Solvable};
 use graph::edges::next_edge;
 use rows::count;
 use rows::join;
@@ -23,10 +23,10 @@ use rows::transfer;
 use worklist::Worklist;
 
 // How far the process has come: the blocks still to visit, and the visits and pushes so far.
-pub struct Progress {
-    pub worklist: Worklist,
-    pub visits: u32,
-    pub pushes: u32,
+struct Progress {
+    worklist: Worklist,
+    visits: u32,
+    pushes: u32,
 }
 
 // The visits and pushes of the whole process.
@@ -79,22 +79,22 @@ fn push_predecessors(
     ensures { λ r. ⌜ Pushed (chain (now (from .entry)) (now (next .entry)) (getD (now (first .entry)) b 0)) at r ⌝ }
 {
     let mut worklist = at.worklist;
-    let mut pushes = at.pushes;
+    let mut pushed: u32 = 0;
     let mut tag = first[b];
     while tag > 0 {
         let entry = tag - 1;
         worklist = worklist.push(from[entry]);
-        pushes += 1;
+        pushed += 1;
         tag = next[entry];
     }
     Progress {
         worklist,
         visits: at.visits,
-        pushes,
+        pushes: at.pushes + pushed,
     }
 }
 
-// A visit of the block on top.
+// A visit of the block on top: from what the tables and the worklist stand for, one step of the process.
 fn visit(
     s: &[u8],
     places: &[usize],
@@ -107,7 +107,7 @@ fn visit(
     outs: &mut [u64],
     at: Progress,
 ) -> Progress
-    requires { ⌜ Given (now s) (now places) × Ruled (functionIn (now s)) (now uses) (now kills) × Chained (functionIn (now s)) (now first) (now from) (now next) × LiveTables (functionIn (now s)) (now ins) (now outs) × Ready (functionIn (now s)) at ⌝ }
+    requires { ⌜ Given (now s) (now places) × Ruled (functionIn (now s)) (now uses) (now kills) × Listed (functionIn (now s)) (now first) (now from) (now next) × LiveTables (functionIn (now s)) (now ins) (now outs) × Ready (functionIn (now s)) at ⌝ }
     ensures { λ r. ⌜ ((c : Compact) → Stands (now (ins .entry)) (now (outs .entry)) at c → Stands (now (ins .exit)) (now (outs .exit)) r (stepTop (functionIn (now (s .entry))) c)) ⌝ }
 {
     let worklist = at.worklist;

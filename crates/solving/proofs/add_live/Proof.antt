@@ -1,7 +1,7 @@
 -- `solving::add_live` meets its contract.
 use native.Mathlib.Omega.{arith}
 use Rattle.graph.specs.ByTable.{places-long, start-less, end-le}
-use Rattle.solving.proofs.Adding.{target-row, added}
+use Rattle.solving.proofs.Adding.{target-in-file, added}
 use borrow.Author.Needs.{needs}
 use Rattle.solving.proofs.add_live.Statement.{statement}
 use Rattle.solving.proofs.add_live.Tie as tie
@@ -13,10 +13,16 @@ mul-join-successors : tie.Need-mul-join-successors
 mul-join-successors c = search needs
 
 shared-slice-read-join-successors : tie.Need-shared-slice-read-join-successors
-shared-slice-read-join-successors c = omega (arith, c .before .before .before .before .before .before .before .before .before .pre .3, places-long (c .before .before .before .before .before .before .before .before .before .args .s .now) (c .before .before .before .before .before .before .before .before .before .args .places .now) (c .before .before .before .before .before .before .before .before .before .pre .0))
+shared-slice-read-join-successors c =
+    let start = c .before .before .before .before .before .before .before .before .before in
+    omega (arith, start .pre .3, places-long (start .args .s .now) (start .args .places .now) (start .pre .0))
 
 add-join-successors : tie.Need-add-join-successors
-add-join-successors c = omega (arith, start-less (c .before .before .before .before .before .before .before .before .before .args .s .now) (c .before .before .before .before .before .before .before .before .before .args .places .now) (c .before .before .before .before .before .before .before .before .before .pre .0) _ (c .before .before .before .before .before .before .before .before .before .pre .3), end-le (c .before .before .before .before .before .before .before .before .before .args .s .now) (c .before .before .before .before .before .before .before .before .before .args .places .now) (c .before .before .before .before .before .before .before .before .before .pre .0) _ (c .before .before .before .before .before .before .before .before .before .pre .3))
+add-join-successors c =
+    let start = c .before .before .before .before .before .before .before .before .before in
+    let first = start-less (start .args .s .now) (start .args .places .now) (start .pre .0) _ (start .pre .3) in
+    let last = end-le (start .args .s .now) (start .args .places .now) (start .pre .0) _ (start .pre .3) in
+    omega arith
 
 add-join-successors-2 : tie.Need-add-join-successors-2
 add-join-successors-2 c = search needs
@@ -25,10 +31,20 @@ mul-join-successors-2 : tie.Need-mul-join-successors-2
 mul-join-successors-2 c = search needs
 
 shared-slice-read-join-successors-2 : tie.Need-shared-slice-read-join-successors-2
-shared-slice-read-join-successors-2 c = omega (arith, c .before .before .before .before .before .before .before .before .before .before .pre .3, places-long (c .before .before .before .before .before .before .before .before .before .before .args .s .now) (c .before .before .before .before .before .before .before .before .before .before .args .places .now) (c .before .before .before .before .before .before .before .before .before .before .pre .0))
+shared-slice-read-join-successors-2 c =
+    let start = c .before .before .before .before .before .before .before .before .before .before in
+    omega (arith, start .pre .3, places-long (start .args .s .now) (start .args .places .now) (start .pre .0))
 
 join-successors-requires : tie.Need-join-successors-requires
-join-successors-requires c κs = (start-less (c .before .before .before .before .before .before .before .before .before .before .before .before .args .s .now) (c .before .before .before .before .before .before .before .before .before .before .before .before .args .places .now) (c .before .before .before .before .before .before .before .before .before .before .before .before .pre .0) _ (c .before .before .before .before .before .before .before .before .before .before .before .before .pre .3), end-le (c .before .before .before .before .before .before .before .before .before .before .before .before .args .s .now) (c .before .before .before .before .before .before .before .before .before .before .before .before .args .places .now) (c .before .before .before .before .before .before .before .before .before .before .before .before .pre .0) _ (c .before .before .before .before .before .before .before .before .before .before .before .before .pre .3), search needs, target-row (c .before .before .before .before .before .before .before .before .before .before .before .before .args .s .now) (c .before .before .before .before .before .before .before .before .before .before .before .before .args .places .now) (c .before .before .before .before .before .before .before .before .before .before .before .before .args .uses .now) (c .before .before .before .before .before .before .before .before .before .before .before .before .args .kills .now) (c .before .before .before .before .before .before .before .before .before .before .before .before .args .ins .now) (c .before .before .before .before .before .before .before .before .before .before .before .before .args .outs .now) (c .before .before .before .before .before .before .before .before .before .before .before .before .pre .0) (c .before .before .before .before .before .before .before .before .before .before .before .before .pre .1) (c .before .before .before .before .before .before .before .before .before .before .before .before .pre .2) (c .before .before .before .before .before .before .before .before .before .before .before .before .args .b) (c .before .before .before .before .before .before .before .before .before .before .before .before .pre .3))
+join-successors-requires c κs =
+    let start = c .before .before .before .before .before .before .before .before .before .before .before .before in (
+      start-less (start .args .s .now) (start .args .places .now) (start .pre .0) _ (start .pre .3),
+      end-le (start .args .s .now) (start .args .places .now) (start .pre .0) _ (start .pre .3),
+      search needs,
+      λ t m.
+          let inside = target-in-file (start .args .s .now) (start .args .places .now) (start .pre .0) (start .args .b) (start .pre .3) t m in
+          omega (arith, start .pre .1, start .pre .2),
+    )
 
 transfer-requires : tie.Need-transfer-requires
 transfer-requires c κs = search needs
@@ -43,7 +59,10 @@ same-length-2 : tie.Need-same-length-2
 same-length-2 c = search needs
 
 returns : tie.Need-returns
-returns c = added (c .before .before .before .before .before .before .before .before .before .before .before .before .before .before .before .before .before .before .before .before .before .before .args .s .now) (c .before .before .before .before .before .before .before .before .before .before .before .before .before .before .before .before .before .before .before .before .before .before .args .places .now) (c .before .before .before .before .before .before .before .before .before .before .before .before .before .before .before .before .before .before .before .before .before .before .args .uses .now) (c .before .before .before .before .before .before .before .before .before .before .before .before .before .before .before .before .before .before .before .before .before .before .args .kills .now) (c .before .before .before .before .before .before .before .before .before .before .before .before .before .before .before .before .before .before .before .before .before .before .args .ins .now) (c .before .before .before .before .before .before .before .before .before .before .before .before .before .before .before .before .before .before .before .before .before .before .args .outs .now) (c .before .before .before .before .before .before .before .before .before .before .before .before .before .before .before .before .before .before .before .before .before .before .pre .0) (c .before .before .before .before .before .before .before .before .before .before .before .before .before .before .before .before .before .before .before .before .before .before .pre .1) (c .before .before .before .before .before .before .before .before .before .before .before .before .before .before .before .before .before .before .before .before .before .before .pre .2) (c .before .before .before .before .before .before .before .before .before .before .before .before .before .before .before .before .before .before .before .before .before .before .args .b) (c .before .before .before .before .before .before .before .before .before .before .before .before .before .before .before .before .before .before .before .before .before .before .pre .3) _ _ (c .before .before .before .before .before .before .before .before .before .join-successors .ensures) (c .before .before .before .before .transfer .ensures) _ _ (c .before .before .before .before .before .before .before .before .before .before .before .before .before .before .count .ensures) (c .count2 .ensures)
+returns c =
+    let start = c .before .before .before .before .before .before .before .before .before .before .before .before .before .before .before .before .before .before .before .before .before .before in
+    added (start .args .s .now) (start .args .places .now) (start .pre .0) (start .args .b) (start .pre .3) _ _ _ _ (start .pre .1) (start .pre .2)
+    _ _ (c .before .before .before .before .before .before .before .before .before .join-successors .ensures) (c .before .before .before .before .transfer .ensures) _ _ (c .before .before .before .before .before .before .before .before .before .before .before .before .before .before .count .ensures) (c .count2 .ensures)
 
 pub add-live-spec : {M : Type 1} → statement M
 add-live-spec =

@@ -1,4 +1,4 @@
--- `solving::start_worklist` meets its contract.
+-- `solving::start_worklist` meets its contract. The invariant: the blocks from index i on stand on the worklist, the lowest of these on top.
 use borrow.Author.Needs.{needs}
 use native.Mathlib.Omega.{arith}
 use mathlib.Core.Path.{_≡_, sym, ap, _∙_}
@@ -20,7 +20,13 @@ new-requires : tie.Need-new-requires Inv-loop μ-loop
 new-requires c κs = search needs
 
 loop-holds : tie.Need-loop-holds Inv-loop μ-loop
-loop-holds c = (search needs, c .new .ensures .0 ∙ sym (starting-none (c .before .before .args .order .now) (c .before .before .args .count) (c .before .before .pre .0) (c .before .before .pre .1)), c .new .ensures .1)
+loop-holds c =
+    let start = c .before .before in
+    let new = c .new in (
+      search needs,
+      new .ensures .0 ∙ sym (starting-none (start .args .order .now) (start .args .count) (start .pre .0) (start .pre .1)),
+      new .ensures .1,
+    )
 
 sub-i : tie.Need-sub-i Inv-loop μ-loop
 sub-i c = search needs
@@ -32,16 +38,30 @@ shared-slice-read-push : tie.Need-shared-slice-read-push Inv-loop μ-loop
 shared-slice-read-push c = search needs
 
 push-requires : tie.Need-push-requires Inv-loop μ-loop
-push-requires c κs = (c .before .before .loop .inv .2, starting-below (c .before .before .before .before .before .args .order .now) (c .before .before .before .before .before .args .count) (c .before .before .before .before .before .pre .0) (c .before .before .before .before .before .pre .1) (c .before .before .loop .i) (c .before .loop-test .taken) (c .before .before .loop .inv .0))
+push-requires c κs =
+    let start = c .before .before .before .before .before in
+    (c .before .before .loop .inv .2, starting-below (start .args .order .now) (start .args .count) (start .pre .0) (start .pre .1) _ (search needs))
 
 loop-less : tie.Need-loop-less Inv-loop μ-loop
 loop-less c = search needs
 
 loop-again : tie.Need-loop-again Inv-loop μ-loop
-loop-again c = (omega (arith, c .before .before .before .loop .inv .0), c .push .ensures .0 ∙ ap (moveToTop _) (c .before .before .before .loop .inv .1) ∙ starting-more (c .before .before .before .before .before .before .args .order .now) (c .before .before .before .before .before .before .args .count) (c .before .before .before .before .before .before .pre .0) (c .before .before .before .before .before .before .pre .1) (c .before .before .before .loop .i) (c .before .before .loop-test .taken) (c .before .before .before .loop .inv .0), c .push .ensures .1)
+loop-again c =
+    let start = c .before .before .before .before .before .before in
+    let loop = c .before .before .before .loop in
+    let push = c .push in (
+      search needs,
+      push .ensures .0 ∙ ap (moveToTop _) (loop .inv .1)
+          ∙ starting-more (start .args .order .now) (start .args .count) (start .pre .0) (start .pre .1) (loop .i) (c .before .before .loop-test .taken) (loop .inv .0),
+      push .ensures .1,
+    )
 
 returns : tie.Need-returns Inv-loop μ-loop
-returns c = let none : c .before .loop .i ≡ 0 = omega arith in c .before .loop .inv .1 ∙ ap (λ n. drop n (take (c .before .before .before .before .args .count) (c .before .before .before .before .args .order .now))) none
+returns c =
+    let start = c .before .before .before .before in
+    let loop = c .before .loop in
+    let none : loop .i ≡ 0 = omega arith in
+    loop .inv .1 ∙ ap (λ n. drop n (take (start .args .count) (start .args .order .now))) none
 
 pub start-worklist-spec : {M : Type 1} → statement M
 start-worklist-spec =

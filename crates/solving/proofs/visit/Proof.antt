@@ -12,10 +12,17 @@ add-t16 : tie.Need-add-t16
 add-t16 c = search needs
 
 add-live-requires : tie.Need-add-live-requires
-add-live-requires c κs = (c .before .before .before .before .before .before .before .before .before .before .before .before .before .before .before .pre .0, c .before .before .before .before .before .before .before .before .before .before .before .before .before .before .before .pre .1, c .before .before .before .before .before .before .before .before .before .before .before .before .before .before .before .pre .3, top-in-file (functionIn (c .before .before .before .before .before .before .before .before .before .before .before .before .before .before .before .args .s .now)) (c .before .before .before .before .before .before .before .before .before .before .before .before .before .before .before .args .at) (c .before .before .before .before .before .before .before .before .before .before .before .before .before .before .before .pre .4) _ _ (c .before .before .before .before .pop .ensures .0))
+add-live-requires c κs =
+    let start = c .before .before .before .before .before .before .before .before .before .before .before .before .before .before .before in
+    let ready = start .pre .4 in
+    (start .pre .0, start .pre .1, start .pre .3, top-in-file (functionIn (start .args .s .now)) (start .args .at) ready _ _ (c .before .before .before .before .pop .ensures .0))
 
 push-predecessors-requires : tie.Need-push-predecessors-requires
-push-predecessors-requires c κs = predecessors-pushable (functionIn (c .before .before .before .before .before .before .before .before .before .before .before .before .before .before .before .before .before .before .before .before .before .args .s .now)) (c .before .before .before .before .before .before .before .before .before .before .before .before .before .before .before .before .before .before .before .before .before .args .at) (c .before .before .before .before .before .before .before .before .before .before .before .before .before .before .before .before .before .before .before .before .before .pre .4) _ _ (c .before .before .before .before .before .before .before .before .before .before .pop .ensures .0) (c .before .before .before .before .before .before .before .before .before .before .before .before .before .before .before .before .before .before .before .before .before .pre .0 .inFile) (c .before .before .before .before .before .before .before .before .before .before .before .before .before .before .before .before .before .before .before .before .before .pre .1 .few) _ _ _ (c .before .before .before .before .before .before .before .before .before .before .before .before .before .before .before .before .before .before .before .before .before .pre .2) (c .before .before .before .before .before .before .before .before .before .before .pop .ensures .1)
+push-predecessors-requires c κs =
+    let start = c .before .before .before .before .before .before .before .before .before .before .before .before .before .before .before .before .before .before .before .before .before in
+    let pop = c .before .before .before .before .before .before .before .before .before .before .pop in
+    predecessors-pushable (functionIn (start .args .s .now)) (start .args .at) (start .pre .4) _ _ (pop .ensures .0)
+    _ (start .pre .0 .inFile) (start .pre .1 .few) _ _ _ (start .pre .2) (pop .ensures .1)
 
 same-length : tie.Need-same-length
 same-length c = search needs
@@ -24,7 +31,14 @@ same-length-2 : tie.Need-same-length-2
 same-length-2 c = search needs
 
 returns : tie.Need-returns
-returns c = λ d stands. stands-grown (functionIn (c .before .before .before .before .before .before .before .before .before .before .before .before .before .before .before .before .before .before .before .before .before .before .args .s .now)) (c .before .before .before .before .before .before .before .before .before .before .before .before .before .before .before .before .before .before .before .before .before .before .args .at) (c .before .before .before .before .before .before .before .before .before .before .before .before .before .before .before .before .before .before .before .before .before .before .pre .4) _ _ (c .before .before .before .before .before .before .before .before .before .before .before .pop .ensures .0) _ _ _ _ _ (c .before .before .before .before .before .before .add-live .ensures) d stands (c .before .if1 .taken) _ (c .before .before .before .before .before .before .before .before .before .before .before .before .before .before .before .before .before .before .before .before .before .before .pre .2 .lists _ (top-in-file (functionIn (c .before .before .before .before .before .before .before .before .before .before .before .before .before .before .before .before .before .before .before .before .before .before .args .s .now)) (c .before .before .before .before .before .before .before .before .before .before .before .before .before .before .before .before .before .before .before .before .before .before .args .at) (c .before .before .before .before .before .before .before .before .before .before .before .before .before .before .before .before .before .before .before .before .before .before .pre .4) _ _ (c .before .before .before .before .before .before .before .before .before .before .before .pop .ensures .0))) _ (c .push-predecessors .ensures)
+returns c =
+    λ state stands.
+    let start = c .before .before .before .before .before .before .before .before .before .before .before .before .before .before .before .before .before .before .before .before .before .before in
+    let pop = c .before .before .before .before .before .before .before .before .before .before .before .pop in
+    let f = functionIn (start .args .s .now) in
+    let listed = start .pre .2 .lists _ (top-in-file f (start .args .at) (start .pre .4) _ _ (pop .ensures .0)) in
+    stands-grown f (start .args .at) (start .pre .4) _ _ (pop .ensures .0) _ _ _ _ _ (c .before .before .before .before .before .before .add-live .ensures) state stands (c .before .if1 .taken)
+    _ listed _ (c .push-predecessors .ensures)
 
 same-length-3 : tie.Need-same-length-3
 same-length-3 c = search needs
@@ -33,7 +47,11 @@ same-length-4 : tie.Need-same-length-4
 same-length-4 c = search needs
 
 returns-2 : tie.Need-returns-2
-returns-2 c = λ d stands. stands-idle (functionIn (c .before .before .before .before .before .before .before .before .before .before .before .before .before .before .before .before .before .before .before .before .before .args .s .now)) (c .before .before .before .before .before .before .before .before .before .before .before .before .before .before .before .before .before .before .before .before .before .args .at) (c .before .before .before .before .before .before .before .before .before .before .before .before .before .before .before .before .before .before .before .before .before .pre .4) _ _ (c .before .before .before .before .before .before .before .before .before .before .pop .ensures .0) _ _ _ _ _ (c .before .before .before .before .before .add-live .ensures) d stands (c .if1 .left)
+returns-2 c =
+    λ state stands.
+    let start = c .before .before .before .before .before .before .before .before .before .before .before .before .before .before .before .before .before .before .before .before .before in
+    stands-idle (functionIn (start .args .s .now)) (start .args .at) (start .pre .4) _ _ (c .before .before .before .before .before .before .before .before .before .before .pop .ensures .0) _ _ _ _ _ (c .before .before .before .before .before .add-live .ensures)
+    state stands (c .if1 .left)
 
 pub visit-spec : {M : Type 1} → statement M
 visit-spec =
