@@ -11,12 +11,11 @@ use Rattle.rules.specs.Liveness.{process}
 use Rattle.fixpoint.specs.Rule as rule
 use Rattle.graph.specs.Room.{Blank, lists-lent}
 use Rattle.graph.specs.Links.{links, linked, Walked, LentLinks}
-use Rattle.graph.specs.Few.{values-few, blocks-few, edges-few}
 use Rattle.rows.specs.Rows.{rows}
 use Rattle.acceptance.specs.Stages.{Readable}
 use Rattle.acceptance.specs.declared.survey.BlockCounts.{BlockCounts}
 use Rattle.blocksets.specs.InRows.{SetTables}
-use Rattle.solving.specs.Tables.{HasRows, Few, Solvable, linked-chained-lists}
+use Rattle.solving.specs.Tables.{Few, Solvable, linked-listed, few-counts, table-rows-enough}
 use Rattle.solving.specs.declared.LivenessCounts.{LivenessCounts}
 
 -- the tables: the linked lists of predecessors, each block's uses and kills, and both live tables
@@ -60,13 +59,7 @@ pub record Analysed (s : List ℕ) (lent back : LiveTables) (counts : LivenessCo
 -- EACH STEP CAN BE TAKEN.
 module _ {s places order : List ℕ} {blocks : BlockCounts} {t : LiveTables} (h : Analysable s places order blocks t) where
   few : Few (functionIn s)
-  few =
-      let r = h .readable in
-      record { values = values-few s (r .few); blocks = blocks-few s (r .few); edges = edges-few s (r .few) (r .inOrder) }
-
-  -- a table of the largest size has a row for each block
-  has-rows : (u : List ℕ) → tableWords ≤ length u → HasRows (functionIn s) u
-  has-rows u l = omega (arith, few .blocks)
+  few = few-counts s (h .readable .few) (h .readable .inOrder)
 
   pub links-lent : LentLinks (functionIn s) (links (t .first) (t .from) (t .next) 0)
   links-lent =
@@ -98,13 +91,13 @@ module _ {s places order : List ℕ} {blocks : BlockCounts} {t : LiveTables} (h 
             record {
               used = used;
               killed = killed;
-              use-rows = has-rows uses (omega (arith, h .uses .0));
-              kill-rows = has-rows kills (omega (arith, h .kills .0));
+              use-rows = table-rows-enough (functionIn s) few uses (omega (arith, h .uses .0));
+              kill-rows = table-rows-enough (functionIn s) few kills (omega (arith, h .kills .0));
               few = few;
             };
-        chained = linked-chained-lists (functionIn s) (h .readable .inFile) (t .first) (t .from) (t .next) links-lent first from next n same;
-        in-rows = has-rows (t .ins) (h .ins .0);
-        out-rows = has-rows (t .outs) (h .outs .0);
+        listed = linked-listed (functionIn s) (h .readable .inFile) (t .first) (t .from) (t .next) links-lent first from next n same;
+        in-rows = table-rows-enough (functionIn s) few (t .ins) (h .ins .0);
+        out-rows = table-rows-enough (functionIn s) few (t .outs) (h .outs .0);
         ins-zero = h .ins .1;
         outs-zero = h .outs .1;
       }
