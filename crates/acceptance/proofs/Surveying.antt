@@ -1,6 +1,6 @@
 -- Where a survey ends: at the records, at the function, or with the walk.
 use Prim.Native.Nat.{ℕ}
-use mathlib.Core.Path.{_≡_, refl, sym, ap, subst, _∙_}
+use mathlib.Core.Path.{_≡_, refl, sym, _∙_}
 use mathlib.Core.Bool.{Bool, true, false, not, _&&_}
 use mathlib.Core.List.{List}
 use lib.ListN.{length}
@@ -31,17 +31,6 @@ not-left false b h = tt
 not-right : (a b : Bool) → T (not b) → T (not (a && b))
 not-right true b h = h
 not-right false b h = tt
-
--- a stage's answer, as the code asks for it: whether it let the file pass
-pub said-no : {b : Bool} {v w : Verdict} → b ≡ isAccepted v → v ≡ w → not b ≡ true → T (not (isAccepted w))
-said-no {v = v} e same h = subst (λ x. T (not (isAccepted x))) same (subst T (sym h ∙ ap not e) tt)
-
-pub said-yes : {b : Bool} {v w : Verdict} → b ≡ isAccepted v → v ≡ w → not b ≡ false → T (isAccepted w)
-said-yes {b} {v} e same h = subst (λ x. T (isAccepted x)) same (subst T e (go b h))
-  where
-    go : (b : Bool) → not b ≡ false → T b
-    go true h = tt
-    go false h = absurd (subst T h tt)
 
 module _ (s counts places order index stack next : List ℕ) (v : Verdict) where
   abbrev lent : SurveyTables

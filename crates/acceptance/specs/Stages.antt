@@ -191,3 +191,14 @@ records-readable s h =
       numbered = and-right (ordered 0 (records s)) (numberedFrom 0 (functionIn s .blocks)) both;
       inFile = T-not-not inFile (and-left (not (not inFile)) true from-5);
     }
+
+-- A VERDICT, as code asks for it: whether it lets the call pass.
+pub said-no : {b : Bool} {v w : Verdict} → b ≡ isAccepted v → v ≡ w → not b ≡ true → T (not (isAccepted w))
+said-no {v = v} e same h = subst (λ x. T (not (isAccepted x))) same (subst T (sym h ∙ ap not e) tt)
+
+pub said-yes : {b : Bool} {v w : Verdict} → b ≡ isAccepted v → v ≡ w → not b ≡ false → T (isAccepted w)
+said-yes {b} {v} e same h = subst (λ x. T (isAccepted x)) same (subst T e (go b h))
+  where
+    go : (b : Bool) → not b ≡ false → T b
+    go true h = tt
+    go false h = absurd (subst T h tt)

@@ -4,7 +4,7 @@ use mathlib.Core.Path.{_≡_, ap, subst, _∙_}
 use mathlib.Core.Bool.{true, false, not, _&&_}
 use mathlib.Core.List.{List}
 use native.Mathlib.Omega.{arith}
-use lib.ListN.{length}
+use lib.ListN.{length, replicate}
 use lib.Dec.{T, T-not}
 use Rattle.rules.specs.Limits.{largestValues, largestBlocks}
 use Rattle.rules.specs.Lists.{padded}
@@ -25,7 +25,7 @@ use Rattle.graph.specs.Blocks.{blockTable, length-blockTable}
 use Rattle.graph.specs.Tables.{indexTable}
 use Rattle.graph.specs.Links.{Walked}
 use Rattle.graph.specs.Few.{records-few, values-few, blocks-few}
-use Rattle.graph.specs.Room.{Blank}
+use Rattle.graph.specs.Room.{Blank, blank-zeros}
 use Rattle.acceptance.specs.Stages.{recordRefusals, functionRefusals, walkRefusals, passed-none, recordsPass, functionPasses, stages-verdict, Readable, records-readable, T-not-not}
 
 -- the tables that a survey fills: how often each value is defined, where blocks start, the reachable blocks by index, each
@@ -50,6 +50,22 @@ pub record BlankTables (t : SurveyTables) : Type 0 where
   pub index : Blank largestBlocks (t .index)
   pub stack : Blank largestBlocks (t .stack)
   pub next : Blank largestBlocks (t .next)
+
+-- zeros of just those lengths are
+pub blank-tables :
+    BlankTables
+    (surveyTables (replicate largestValues 0) (replicate (suc largestBlocks) 0) (replicate largestBlocks 0) (replicate largestBlocks 0)
+    (replicate largestBlocks 0) (replicate largestBlocks 0))
+blank-tables =
+    let perBlock = blank-zeros largestBlocks in
+    record {
+      counts = blank-zeros largestValues;
+      places = blank-zeros (suc largestBlocks);
+      order = perBlock;
+      index = perBlock;
+      stack = perBlock;
+      next = perBlock;
+    }
 
 -- what is handed back. Definitions are counted where refusals 2 to 5 let the file pass, and it is walked where 6 and 7 do
 -- too; a table that is not come to is as it was lent.

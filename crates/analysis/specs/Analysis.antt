@@ -1,10 +1,9 @@
 -- What the analysis of a file is lent, and what it leaves.
-use Prim.Native.Nat.{ℕ, _≤_, _*_}
-use mathlib.Core.Path.{_≡_, refl, sym, ap, _∙_}
+use Prim.Native.Nat.{ℕ}
+use mathlib.Core.Path.{_≡_}
 use mathlib.Core.List.{List}
 use native.Mathlib.Omega.{arith}
 use lib.ListN.{length}
-use lib.Dec.{T}
 use Rattle.rules.specs.Limits.{largestBlocks, largestEdges, tableWords}
 use Rattle.rules.specs.File.{functionIn}
 use Rattle.rules.specs.Liveness.{process}

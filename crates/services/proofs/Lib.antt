@@ -1,1 +1,2 @@
+pub mod LiveAnswers
 pub mod Zeroed

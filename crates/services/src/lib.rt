@@ -2,3 +2,4 @@
 pub mod check;
 mod clearing;
 pub mod liveness;
+mod tables;

@@ -4,24 +4,17 @@ ghost use mathlib.Core.Bool.{_||_};
 ghost use lib.Dec.{ltb};
 ghost use lib.ListN.{length};
 ghost use Rattle.rules.specs.Limits.{tableWords};
-ghost use Rattle.rules.specs.File.{functionIn};
-ghost use Rattle.rules.specs.Liveness.{process};
 ghost use Rattle.rules.specs.Services.{livenessAnswer, livenessIns, livenessOuts};
-ghost use Rattle.rows.specs.Rows.{rows};
-ghost use Rattle.services.specs.Live.{Lent};
 use crate::clearing::clear_words;
-use acceptance::survey::BlockCounts;
+use crate::tables::live_tables;
 use acceptance::survey::survey;
 use acceptance::verdict::is_accepted;
 use acceptance::verdict::or_refused;
-use analysis::analyse;
 use rules::LARGEST_BLOCKS;
-use rules::LARGEST_EDGES;
 use rules::LARGEST_VALUES;
 use rules::LivenessAnswer;
 use rules::TABLE_WORDS;
 use rules::Verdict;
-use solving::LivenessCounts;
 
 // Whether one of two live tables, of so many words, is too short.
 fn too_short(n: usize, m: usize) -> bool
@@ -33,38 +26,6 @@ fn too_short(n: usize, m: usize) -> bool
     m < TABLE_WORDS
 }
 
-// Both live tables of a file that was surveyed and not refused.
-pub fn live_tables(
-    s: &[u8],
-    places: &[usize],
-    order: &[usize],
-    blocks: BlockCounts,
-    ins: &mut [u64],
-    outs: &mut [u64],
-) -> LivenessCounts
-    requires { ⌜ Lent (now s) (now places) (now order) blocks (now ins) (now outs) ⌝ }
-    ensures { λ r. ⌜ (rows (now (ins .exit)) ≡ process (functionIn (now (s .entry))) .ins) × (rows (now (outs .exit)) ≡ process (functionIn (now (s .entry))) .outs) × (r .visits ≡ length (process (functionIn (now (s .entry))) .visited)) × (r .pushes ≡ process (functionIn (now (s .entry))) .pushes) ⌝ }
-{
-    let mut first: [usize; LARGEST_BLOCKS] = [0; LARGEST_BLOCKS];
-    let mut from: [usize; LARGEST_EDGES] = [0; LARGEST_EDGES];
-    let mut next: [usize; LARGEST_EDGES] = [0; LARGEST_EDGES];
-    let mut uses: [u64; TABLE_WORDS] = [0; TABLE_WORDS];
-    let mut kills: [u64; TABLE_WORDS] = [0; TABLE_WORDS];
-    analyse(
-        s,
-        places,
-        order,
-        blocks,
-        &mut first,
-        &mut from,
-        &mut next,
-        &mut uses,
-        &mut kills,
-        ins,
-        outs,
-    )
-}
-
 // The two live tables, eight words a block, with zeros behind them, and the visits and pushes of the process. Zeros alone
 // and no counts where the call is refused: by 2 to 8, and by 11 where a table is too short.
 pub fn liveness(s: &[u8], ins: &mut [u64], outs: &mut [u64]) -> LivenessAnswer
@@ -72,6 +33,7 @@ pub fn liveness(s: &[u8], ins: &mut [u64], outs: &mut [u64]) -> LivenessAnswer
     ensures { λ _. ⌜ now (ins .exit) ≡ livenessIns (now (s .entry)) (length (now (ins .entry))) (length (now (outs .entry))) ⌝ }
     ensures { λ _. ⌜ now (outs .exit) ≡ livenessOuts (now (s .entry)) (length (now (ins .entry))) (length (now (outs .entry))) ⌝ }
 {
+    let short = too_short(ins.len(), outs.len());
     clear_words(ins);
     clear_words(outs);
     let mut counts: [u32; LARGEST_VALUES] = [0; LARGEST_VALUES];
@@ -91,7 +53,7 @@ pub fn liveness(s: &[u8], ins: &mut [u64], outs: &mut [u64]) -> LivenessAnswer
     );
     let of_file = found.verdict;
     let blocks = found.blocks;
-    let verdict = or_refused(of_file, Verdict::TooShort, too_short(ins.len(), outs.len()));
+    let verdict = or_refused(of_file, Verdict::TooShort, short);
     if !is_accepted(verdict) {
         return LivenessAnswer {
             verdict,

@@ -1,7 +1,7 @@
 -- `acceptance::survey::survey` meets its contract.
-use Rattle.acceptance.proofs.Surveying.{ends-at-records, ends-at-function, ends-with-walk, said-no, said-yes}
+use Rattle.acceptance.proofs.Surveying.{ends-at-records, ends-at-function, ends-with-walk}
 use Rattle.acceptance.specs.Survey.{readable-countable, numbered-walked}
-use Rattle.acceptance.specs.Stages.{records-readable}
+use Rattle.acceptance.specs.Stages.{records-readable, said-no, said-yes}
 use borrow.Author.Needs.{needs}
 use Rattle.acceptance.proofs.survey.survey.Statement.{statement}
 use Rattle.acceptance.proofs.survey.survey.Tie as tie

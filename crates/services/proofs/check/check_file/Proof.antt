@@ -1,7 +1,5 @@
 -- `services::check::check_file` meets its contract.
-use Prim.Native.Nat.{suc}
-use Rattle.graph.specs.Room.{blank-zeros}
-use Rattle.rules.specs.Limits.{largestValues, largestBlocks}
+use Rattle.acceptance.specs.Survey.{blank-tables}
 use borrow.Author.Needs.{needs}
 use Rattle.services.proofs.check.check_file.Statement.{statement}
 use Rattle.services.proofs.check.check_file.Tie as tie
@@ -25,16 +23,7 @@ slice-aggregate-survey-6 : tie.Need-slice-aggregate-survey-6
 slice-aggregate-survey-6 c = search needs
 
 survey-requires : tie.Need-survey-requires
-survey-requires c κs =
-    let perBlock = blank-zeros largestBlocks in
-    record {
-      counts = blank-zeros largestValues;
-      places = blank-zeros (suc largestBlocks);
-      order = perBlock;
-      index = perBlock;
-      stack = perBlock;
-      next = perBlock;
-    }
+survey-requires c κs = blank-tables
 
 returns : tie.Need-returns
 returns c = search needs

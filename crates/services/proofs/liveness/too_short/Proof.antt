@@ -1,16 +1,13 @@
+-- `services::liveness::too_short` meets its contract.
 use Rattle.rules.specs.Limits.{tableWords}
 use borrow.Author.Tests.{lt-ltb, le-ltb}
 use mathlib.Core.Path.{refl}
 use Rattle.services.proofs.liveness.too_short.Statement.{statement}
 use Rattle.services.proofs.liveness.too_short.Tie as tie
-use Rattle.services.proofs.liveness.too_short.Reads as reads
-use Rattle.services.proofs.liveness.too_short.Lts as lts
 
--- src/liveness.rt:31:9
 returns : tie.Need-returns
 returns c = rw (lt-ltb (c .before .args .n) tableWords (c .if1 .taken)) refl
 
--- src/liveness.rt:27:1
 returns-2 : tie.Need-returns-2
 returns-2 c = rw (le-ltb (c .before .args .n) tableWords (c .if1 .left)) refl
 

@@ -1,44 +1,33 @@
+-- `services::tables::live_tables` meets its contract.
 use Rattle.services.specs.Live.{lent-analysable}
 use borrow.Author.Needs.{needs}
-use Rattle.services.proofs.liveness.live_tables.Statement.{statement}
-use Rattle.services.proofs.liveness.live_tables.Tie as tie
-use Rattle.services.proofs.liveness.live_tables.Reads as reads
-use Rattle.services.proofs.liveness.live_tables.Lts as lts
-use Rattle.analysis.proofs.analyse.Reads as analyse-reads
+use Rattle.services.proofs.tables.live_tables.Statement.{statement}
+use Rattle.services.proofs.tables.live_tables.Tie as tie
 
--- src/liveness.rt:58:9
 slice-aggregate-analyse : tie.Need-slice-aggregate-analyse
 slice-aggregate-analyse c = search needs
 
--- src/liveness.rt:59:9
 slice-aggregate-analyse-2 : tie.Need-slice-aggregate-analyse-2
 slice-aggregate-analyse-2 c = search needs
 
--- src/liveness.rt:60:9
 slice-aggregate-analyse-3 : tie.Need-slice-aggregate-analyse-3
 slice-aggregate-analyse-3 c = search needs
 
--- src/liveness.rt:61:9
 slice-aggregate-analyse-4 : tie.Need-slice-aggregate-analyse-4
 slice-aggregate-analyse-4 c = search needs
 
--- src/liveness.rt:62:9
 slice-aggregate-analyse-5 : tie.Need-slice-aggregate-analyse-5
 slice-aggregate-analyse-5 c = search needs
 
--- src/liveness.rt:53:5
 analyse-requires : tie.Need-analyse-requires
 analyse-requires c κs = lent-analysable (c .before .before .before .before .before .before .before .before .before .before .before .before .pre)
 
--- src/liveness.rt:37:1
 same-length : tie.Need-same-length
 same-length c = search needs
 
--- src/liveness.rt:37:1
 same-length-2 : tie.Need-same-length-2
 same-length-2 c = search needs
 
--- src/liveness.rt:37:1
 returns : tie.Need-returns
 returns c = (c .before .before .before .before .before .before .before .before .before .analyse .ensures .live-in, c .before .before .before .before .before .before .before .before .before .analyse .ensures .live-out, c .before .before .before .before .before .before .before .before .before .analyse .ensures .visits, c .before .before .before .before .before .before .before .before .before .analyse .ensures .pushes)
 
