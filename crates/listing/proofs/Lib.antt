@@ -1,0 +1,3 @@
+pub mod Arguments
+pub mod Instruction
+pub mod Counting

@@ -1,0 +1,5 @@
+pub mod Crossings
+pub mod Across
+pub mod Stepping
+pub mod Listed
+pub mod Tables

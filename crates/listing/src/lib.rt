@@ -1,0 +1,3 @@
+// The lists of all safepoints as rows, from the final live-out, and which values are spilled.
+pub mod blocks;
+pub mod instructions;
