@@ -3,3 +3,4 @@ pub mod Across
 pub mod Stepping
 pub mod Listed
 pub mod Tables
+pub mod Ascending
