@@ -112,7 +112,7 @@ keep-none s a zero h = refl
 keep-none s a (suc n) h = rw (h a (omega arith)) (keep-none s (suc a) n (λ v l. h v (omega arith)))
 
 -- so its members are those before
-keep-below :
+pub keep-below :
     (s : NumberSet) (a n k : ℕ) → ((v : ℕ) → a + n ≤ v → s v ≡ false) → keep s (upFrom a (n + k)) ≡ keep s (upFrom a n)
 keep-below s a zero k h = let all : 0 + k ≡ k = omega arith in rw all (keep-none s a k (λ v l. h v (omega arith)))
 keep-below s a (suc n) k h =

@@ -1,0 +1,4 @@
+pub mod Arguments
+pub mod Instruction
+pub mod Counting
+pub mod Noting

@@ -1,0 +1,79 @@
+-- `listing::blocks::count_instructions` meets its contract.
+use Rattle.listing.proofs.Counting.{heads-none, heads-one, heads-other, heads-few}
+use Rattle.listing.specs.Stepping.{headsFrom}
+use Rattle.graph.specs.Sections.{places}
+use Rattle.graph.specs.Between.{between-none}
+use Rattle.rules.specs.Records.{kind, recordAt}
+use borrow.Author.Tests.{eq-eqb, ne-eqb}
+use native.Mathlib.Omega.{arith}
+use lib.ListN.{length}
+use lib.Dec.{eqb}
+use mathlib.Core.List.{[]}
+use mathlib.Core.Bool.{Bool, true, false}
+use mathlib.Core.Path.{_≡_, refl, sym, _∙_, ap}
+use Prim.Native.Nat.{_≤_, _-_, _+_, suc}
+use Rattle.listing.proofs.blocks.count_instructions.Statement.{statement}
+use Rattle.listing.proofs.blocks.count_instructions.Tie as tie
+
+abbrev Inv-loop : tie.InvT-loop
+Inv-loop s start end count₀ p₀ count p = (start ≤ p) × (p ≤ end) × (count ≡ length (headsFrom s p end))
+
+abbrev μ-loop : tie.MeasureT-loop
+μ-loop s start end count₀ p₀ count p = p - start
+
+loop-holds : tie.Need-loop-holds Inv-loop μ-loop
+loop-holds c = (c .before .pre .0, omega arith, sym (heads-none (c .before .args .s .now) (c .before .args .end)))
+
+sub-p : tie.Need-sub-p Inv-loop μ-loop
+sub-p c = omega arith
+
+record-at-requires : tie.Need-record-at-requires Inv-loop μ-loop
+record-at-requires c κs = omega (arith, c .before .before .before .pre .1)
+
+kind-of-requires : tie.Need-kind-of-requires Inv-loop μ-loop
+kind-of-requires c κs = tt
+
+add-count : tie.Need-add-count Inv-loop μ-loop
+add-count c = omega (arith, c .before .before .before .before .loop .inv .2, heads-few (c .before .before .before .before .before .before .args .s .now) (c .before .before .before .before .before .before .args .end) (c .before .before .before .before .before .before .pre .1) (c .before .before .before .before .loop .p) (c .before .before .before .before .loop .inv .1))
+
+loop-less : tie.Need-loop-less Inv-loop μ-loop
+loop-less c = omega arith
+
+loop-again : tie.Need-loop-again Inv-loop μ-loop
+loop-again c =
+    let s = c .before .before .before .before .before .before .args .s .now in
+    let k : c .before .kind-of .result ≡ kind (recordAt s (c .before .before .before .before .loop .p - 1)) = c .before .kind-of .ensures .0 ∙ ap kind (c .before .before .record-at .ensures) in
+    let e = heads-one s (c .before .before .before .before .before .before .args .end) (c .before .before .before .before .before .before .pre .1) (c .before .before .before .before .loop .p) (omega arith) (c .before .before .before .before .loop .inv .1) (ap (λ x. eqb x 4) (sym k) ∙ eq-eqb (c .before .kind-of .result) 4 (c .if1 .taken)) in
+    (omega arith, omega (arith, c .before .before .before .before .loop .inv .1), omega (arith, c .before .before .before .before .loop .inv .2, e))
+
+loop-less-2 : tie.Need-loop-less-2 Inv-loop μ-loop
+loop-less-2 c = omega arith
+
+loop-again-2 : tie.Need-loop-again-2 Inv-loop μ-loop
+loop-again-2 c =
+    let s = c .before .before .before .before .before .before .args .s .now in
+    let k : c .before .kind-of .result ≡ kind (recordAt s (c .before .before .before .before .loop .p - 1)) = c .before .kind-of .ensures .0 ∙ ap kind (c .before .before .record-at .ensures) in
+    let e = heads-other s (c .before .before .before .before .before .before .args .end) (c .before .before .before .before .before .before .pre .1) (c .before .before .before .before .loop .p) (omega arith) (c .before .before .before .before .loop .inv .1) (ap (λ x. eqb x 4) (sym k) ∙ ne-eqb (c .before .kind-of .result) 4 (c .if1 .left)) in
+    (omega arith, omega (arith, c .before .before .before .before .loop .inv .1), omega (arith, c .before .before .before .before .loop .inv .2, e))
+
+returns : tie.Need-returns Inv-loop μ-loop
+returns c =
+    let e : c .before .loop .p ≡ c .before .before .before .args .start = omega (arith, c .before .loop .inv .0, c .loop-test .left) in
+    c .before .loop .inv .2 ∙ ap (λ q. length (headsFrom (c .before .before .before .args .s .now) q (c .before .before .before .args .end))) e
+
+pub count-instructions-spec : {M : Type 1} → statement M
+count-instructions-spec =
+    tie.close
+    (tie.spec
+    Inv-loop
+    μ-loop
+    loop-holds
+    sub-p
+    record-at-requires
+    kind-of-requires
+    add-count
+    loop-less
+    loop-again
+    loop-less-2
+    loop-again-2
+    returns)

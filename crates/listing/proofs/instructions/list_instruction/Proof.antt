@@ -1,0 +1,50 @@
+-- `listing::instructions::list_instruction` meets its contract.
+use Rattle.listing.proofs.Instruction.{crossed-listed, crossed-before}
+use Rattle.rows.specs.Rows.{rows}
+use mathlib.Core.Path.{_≡_, refl, sym, _∙_, ap}
+use borrow.Author.Needs.{needs}
+use Rattle.listing.proofs.instructions.list_instruction.Statement.{statement}
+use Rattle.listing.proofs.instructions.list_instruction.Tie as tie
+
+add-first : tie.Need-add-first
+add-first c = search needs
+
+behind-arguments-requires : tie.Need-behind-arguments-requires
+behind-arguments-requires c κs = search needs
+
+go-back-requires : tie.Need-go-back-requires
+go-back-requires c κs = search needs
+
+list-live-requires : tie.Need-list-live-requires
+list-live-requires c κs = search needs
+
+go-back-requires-2 : tie.Need-go-back-requires-2
+go-back-requires-2 c κs = search needs
+
+same-length : tie.Need-same-length
+same-length c = search needs
+
+same-length-2 : tie.Need-same-length-2
+same-length-2 c = search needs
+
+returns : tie.Need-returns
+returns c =
+    let s = c .before .before .before .before .before .before .before .before .before .before .before .before .before .before .before .before .before .args .s .now in
+    let split = c .before .before .before .before .before .before .before .before .before .before .before .before .before .behind-arguments .ensures in
+    let live = rows (c .before .before .before .before .before .before .before .before .before .before .before .before .before .before .before .before .before .args .live .now) in (
+      crossed-before s (c .before .before .before .before .before .before .before .before .before .before .before .before .before .before .before .before .before .args .p) (c .before .before .before .before .before .before .before .before .before .before .before .before .before .behind-arguments .result) (c .before .before .before .before .before .before .before .before .before .before .before .before .before .before .before .before .before .args .end) (c .before .before .before .before .before .before .before .before .before .before .before .before .before .before .before .before .before .pre .2) (c .before .before .before .before .before .before .before .before .before .before .before .before .before .before .before .before .before .pre .3) (split .0) (split .1) (split .2) live _ _ (c .before .before .before .before .before .before .before .before .before .before .before .go-back .ensures) (c .before .before .go-back2 .ensures),
+      crossed-listed s (c .before .before .before .before .before .before .before .before .before .before .before .before .before .before .before .before .before .args .p) (c .before .before .before .before .before .before .before .before .before .before .before .before .before .behind-arguments .result) (c .before .before .before .before .before .before .before .before .before .before .before .before .before .before .before .before .before .args .end) (c .before .before .before .before .before .before .before .before .before .before .before .before .before .before .before .before .before .pre .2) (c .before .before .before .before .before .before .before .before .before .before .before .before .before .before .before .before .before .pre .3) (split .0) (split .1) (split .2) live _ live (c .before .before .before .before .before .before .before .before .before .before .before .go-back .ensures) (c .before .before .before .before .before .before .before .before .before .before .before .before .before .before .before .before .before .args .i) (rows (c .before .before .before .before .before .before .before .before .before .before .before .before .before .before .before .before .before .args .lists .now)) _ (c .before .before .before .before .before .before .list-live .ensures),
+    )
+
+pub list-instruction-spec : {M : Type 1} → statement M
+list-instruction-spec =
+    tie.close
+    (tie.spec
+    add-first
+    behind-arguments-requires
+    go-back-requires
+    list-live-requires
+    go-back-requires-2
+    same-length
+    same-length-2
+    returns)

@@ -1,0 +1,6 @@
+pub mod Crossings
+pub mod Across
+pub mod Stepping
+pub mod Listed
+pub mod Tables
+pub mod Ascending

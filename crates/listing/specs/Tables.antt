@@ -1,0 +1,172 @@
+-- What the lists are made from: a file by its tables, and the final live-out as rows.
+use Prim.Native.Nat.{ℕ, zero, suc, _+_, _-_, _*_, _<_, _≤_}
+use mathlib.Core.Path.{_≡_, refl, sym, ap, ap₂, subst, _∙_}
+use mathlib.Core.Bool.{Bool, true, false, not, _||_}
+use mathlib.Core.List.{List, [], _∷_, _++_, map}
+use native.Mathlib.Omega.{arith}
+use native.Mathlib.Numerals.{add-one}
+use lib.ListN.{length, getD, length-map, length-append}
+use lib.Dec.{T, eqb, eqb·suc-zero}
+use borrow.Author.Tests.{eq-eqb, ne-eqb}
+use Rattle.rules.specs.Limits.{rowWords}
+use Rattle.rules.specs.Lists.{has, any, update, upFrom, union, NumberSet, nothing}
+use Rattle.rules.specs.Tree.{Instruction, Function}
+use Rattle.rules.specs.Records.{recordCount}
+use Rattle.rules.specs.File.{instructionOf, functionIn}
+use Rattle.rules.specs.Graph.{blockAt, instructionsOf, reachable}
+use Rattle.rules.specs.Liveness.{process, lists}
+use Rattle.rules.specs.declared.Record.{Record}
+use Rattle.records.specs.Parts.{blockBody}
+use Rattle.lists.specs.Anys.{any-joined}
+use Rattle.graph.specs.Between.{between}
+use Rattle.graph.specs.Blocks.{placeOf, block-body, instructions-by-place}
+use Rattle.graph.specs.Sections.{places, sectionsAt, length-sectionsAt}
+use Rattle.graph.specs.Tables.{Given, tagFrom, indexTag, indexTable, indexTable-at}
+use Rattle.graph.specs.ByTable.{place-at, end-le, start-less, body-by-table}
+use Rattle.rows.specs.Rows.{rows, rowValues}
+use Rattle.fixpoint.specs.Finding.{update-here, update-again}
+use Rattle.blocksets.specs.InRows.{InRows}
+use Rattle.listing.specs.Crossings.{fill, fill-none, crossingsAmong, crossings, crossingsBelow, allCrossings, crossings-more, length-crossings, crossings-reachable, crossings-unreachable, upFrom-more}
+use Rattle.listing.specs.Stepping.{headsFrom, instructionsFrom, BlockRecords}
+use Rattle.listing.specs.Listed.{together, length-lists}
+
+-- the file by its block table and its blocks' indices, the final live-out of its blocks, and room for a row an instruction
+pub record ListTables (s places index outs : List ℕ) (room : ℕ) : Type 0 where
+  pub given : Given s places
+  pub values : length (functionIn s .values) ≤ rowValues
+  pub indexed : index ≡ indexTable (functionIn s) (length index)
+  pub indexRoom : length (functionIn s .blocks) ≤ length index
+  pub live : rows outs ≡ process (functionIn s) .outs
+  pub outsRoom : rowWords * length (functionIn s .blocks) ≤ length outs
+  pub listsRoom : rowWords * length (lists (functionIn s)) ≤ room
+
+-- a block has a tag if it is reachable
+tag-some : (n : ℕ) (xs : List ℕ) (b : ℕ) → has b xs ≡ not (eqb (tagFrom n xs b) 0)
+tag-some n [] b = refl
+tag-some n (x ∷ xs) b = go (eqb b x) (tag-some (suc n) xs b)
+  where
+    go : (o : Bool) → has b xs ≡ not (eqb (tagFrom (suc n) xs b) 0)
+        → o || has b xs ≡ not (eqb (elim o [ true ↦ suc n | false ↦ tagFrom (suc n) xs b ]) 0)
+    go true later = sym (ap not (eqb·suc-zero n))
+    go false later = later
+
+module _ {s places index outs : List ℕ} {room : ℕ} (t : ListTables s places index outs room) where
+  abbrev f : Function
+  f = functionIn s
+
+  pub list-in-rows : InRows s
+  list-in-rows = record { inOrder = t .given .inOrder; inFile = t .given .inFile; values = t .values }
+
+  -- there is room for the instructions of the blocks below one
+  crossings-le : (k b n : ℕ) → b + k ≡ n → length (crossingsBelow f b) ≤ length (crossingsBelow f n)
+  crossings-le zero b n e = let same : n ≡ b = omega arith in rw same (omega arith)
+  crossings-le (suc k) b n e =
+      omega (
+        arith,
+        crossings-le k (b + 1) n (omega arith),
+        ap length (crossings-more f b),
+        length-append (crossingsBelow f b) (crossings f b),
+      )
+
+  pub below-fits : (b : ℕ) → b ≤ length (f .blocks) → rowWords * length (crossingsBelow f b) ≤ room
+  below-fits b l =
+      omega (arith, t .listsRoom, length-lists f, crossings-le (length (f .blocks) - b) b (length (f .blocks)) (omega arith))
+
+  module _ (b : ℕ) (l : b < length (f .blocks)) where
+    abbrev start : ℕ
+    start = getD places b 0 + 1
+
+    abbrev end : ℕ
+    end = getD places (b + 1) 0
+
+    pub block-records : BlockRecords s start end
+    block-records =
+        record {
+          ascends = start-less s places (t .given) b l;
+          inside = end-le s places (t .given) b l;
+          body = subst blockBody (sym (body-by-table s places (t .given) b l)) (block-body s (t .given .inOrder) b l);
+        }
+
+    -- its instructions by the table
+    pub instructions-by-table : instructionsFrom s start end ≡ instructionsOf (blockAt f b)
+    instructions-by-table =
+        let first : start ≡ suc (placeOf s b) = add-one (getD places b 0) ∙ ap suc (place-at s places (t .given) b) in
+        let last : end ≡ placeOf s (suc b) = place-at s places (t .given) (b + 1) ∙ ap (placeOf s) (add-one b) in
+        ap₂ (instructionsFrom s) first last ∙ sym (instructions-by-place s (t .given .inOrder) b l)
+
+    length-heads : length (headsFrom s start end) ≡ length (crossings f b)
+    length-heads =
+        sym (length-crossings f b ∙ ap length (sym instructions-by-table)
+        ∙ length-map (sectionsAt s end (headsFrom s start end)) instructionOf ∙ length-sectionsAt s end (headsFrom s start end))
+
+    -- the number behind its last one
+    pub behind-block :
+        (first count : ℕ) → first ≡ length (crossingsBelow f b) → count ≡ length (headsFrom s start end)
+        → first + count ≡ length (crossingsBelow f (b + 1))
+    behind-block first count e c =
+        omega (arith, e, c, length-heads, ap length (crossings-more f b), length-append (crossingsBelow f b) (crossings f b))
+
+    -- its tag
+    tag-at : has b (reachable f) ≡ not (eqb (getD index b 0) 0)
+    tag-at =
+        tag-some 0 (reachable f) b
+        ∙ ap (λ (x : ℕ). not (eqb x 0))
+        (sym (ap (λ (xs : List ℕ). getD xs b 0) (t .indexed) ∙ indexTable-at f (length index) b (omega (arith, t .indexRoom))))
+
+    -- a block with a tag has lists,
+    pub block-listed :
+        (first behind : ℕ) (lent : ℕ → NumberSet) → (getD index b 0 ≡ 0 → ⊥) → behind ≡ first + length (headsFrom s start end)
+        → fill (behind - length (headsFrom s start end)) (crossingsAmong f (instructionsFrom s start end) (rows outs b)) lent
+        ≡ fill first (crossings f b) lent
+    block-listed first behind lent tag e =
+        let from : behind - length (headsFrom s start end) ≡ first = omega arith in
+        ap (λ (n : ℕ). fill n (crossingsAmong f (instructionsFrom s start end) (rows outs b)) lent) from
+        ∙ ap₂ (λ (is : List Instruction) (out : NumberSet). fill first (crossingsAmong f is out) lent) instructions-by-table
+        (ap (λ (r : ℕ → NumberSet). r b) (t .live))
+        ∙ ap (λ xs. fill first xs lent) (sym (crossings-reachable f b (tag-at ∙ ap not (ne-eqb (getD index b 0) 0 tag))))
+
+    -- and one without has none
+    pub block-unlisted : (first : ℕ) (lent : ℕ → NumberSet) → getD index b 0 ≡ 0 → lent ≡ fill first (crossings f b) lent
+    block-unlisted first lent tag =
+        sym (ap (λ xs. fill first xs lent) (crossings-unreachable f b (tag-at ∙ ap not (eq-eqb (getD index b 0) 0 tag)))
+        ∙ fill-none (instructionsOf (blockAt f b)) first lent)
+
+-- ROWS TOGETHER, one more
+pub together-none : (t : ℕ → NumberSet) (set : NumberSet) → set ≡ union set (together 0 t)
+together-none t set = λ i v. one (set v) i
+  where
+    one : (a : Bool) → a ≡ a || false
+    one true = refl
+    one false = refl
+
+pub together-more :
+    (n : ℕ) (t : ℕ → NumberSet) (set : NumberSet) → union (union set (together n t)) (t n) ≡ union set (together (n + 1) t)
+together-more n t set = λ i v. each v i
+  where
+    three : (a b c : Bool) → (a || b) || c ≡ a || (b || (c || false))
+    three true b c = refl
+    three false true c = refl
+    three false false true = refl
+    three false false false = refl
+
+    each : (v : ℕ) → union (union set (together n t)) (t n) v ≡ union set (together (n + 1) t) v
+    each v =
+        let next : n + 1 ≡ suc n = omega arith in
+        let same : 0 + n ≡ n = omega arith in
+        three (set v) (together n t v) (t n v)
+        ∙ ap (λ b. set v || b)
+        (sym (ap (λ (k : ℕ). any (λ i. t i v) (upFrom 0 k)) next
+        ∙ ap (any (λ i. t i v)) (upFrom-more 0 n ∙ ap (λ (x : ℕ). upFrom 0 n ++ (x ∷ [])) same)
+        ∙ any-joined (λ i. t i v) (upFrom 0 n) (n ∷ [])))
+
+-- a row that gets one row more
+pub joined-more :
+    (n : ℕ) (from lent t u : ℕ → NumberSet) → t ≡ update 0 (union (lent 0) (together n from)) lent → u ≡ update 0 (union (t 0) (from n)) t
+    → u ≡ update 0 (union (lent 0) (together (n + 1) from)) lent
+joined-more n from lent t u here there =
+    let set = union (lent 0) (together n from) in
+    there
+    ∙ ap (λ (z : ℕ → NumberSet). update 0 (union (z 0) (from n)) z) here
+    ∙ ap (λ (z : NumberSet). update 0 (union z (from n)) (update 0 set lent)) (update-here 0 set lent)
+    ∙ update-again 0 set (union set (from n)) lent
+    ∙ ap (λ (z : NumberSet). update 0 z lent) (together-more n from (lent 0))

@@ -1,0 +1,158 @@
+// The lists of all safepoints as rows, by instruction number: the instructions of each reachable block, the last one first.
+ghost use mathlib.Core.Path.{_≡_};
+ghost use Prim.Native.Nat.{_+_, _-_, _*_, _<_, _≤_};
+ghost use lib.ListN.{length};
+ghost use Rattle.rules.specs.Limits.{rowWords};
+ghost use Rattle.rules.specs.Records.{recordCount};
+ghost use Rattle.rules.specs.File.{functionIn};
+ghost use Rattle.rows.specs.Rows.{rows, HasRow};
+ghost use Rattle.blocksets.specs.InRows.{InRows};
+ghost use Rattle.rules.specs.Liveness.{lists as listsOf, isSpilled};
+ghost use Rattle.rules.specs.Lists.{update, union};
+ghost use Rattle.graph.specs.Zeros.{Zeros};
+ghost use Rattle.listing.specs.Crossings.{fill, crossingsAmong, crossings, crossingsBelow, listed};
+ghost use Rattle.listing.specs.Listed.{together};
+ghost use Rattle.listing.specs.Tables.{ListTables};
+ghost use Rattle.listing.specs.Stepping.{headsFrom, instructionsFrom, spotAt, liveAt, listsAt, Opened, BlockRecords};
+use crate::instructions::list_instruction;
+use records::kind_of;
+use records::record_at;
+use rows::copy_row;
+use rows::join;
+use rules::ROW_WORDS;
+
+// How far the walk back over a block has come: where the next instruction ends, and one more than its number.
+struct Spot {
+    end: usize,
+    number: usize,
+}
+
+// How many instructions start from a place on and before place end.
+pub fn count_instructions(s: &[u8], start: usize, end: usize) -> usize
+    requires { ⌜ (start ≤ end) × (end ≤ recordCount (now s)) ⌝ }
+    ensures { λ r. ⌜ r ≡ length (headsFrom (now (s .entry)) start end) ⌝ }
+{
+    let mut count: usize = 0;
+    let mut p = end;
+    while p > start {
+        p -= 1;
+        if kind_of(record_at(s, p)) == 4 {
+            count += 1;
+        }
+    }
+    count
+}
+
+// One record further back: nothing, but where an instruction starts its list, and what is live before it.
+fn list_at(s: &[u8], p: usize, at: Spot, live: &mut [u64], lists: &mut [u64]) -> Spot
+    requires { ⌜ InRows (now s) × (p < at .end) × (at .end ≤ recordCount (now s)) × Opened (now s) p at × HasRow (now live) 0 × (rowWords * at .number ≤ length (now lists)) ⌝ }
+    ensures { λ r. ⌜ (r ≡ spotAt (now (s .entry)) p at) × (rows (now (live .exit)) ≡ liveAt (now (s .entry)) p at (rows (now (live .entry)))) × (rows (now (lists .exit)) ≡ listsAt (now (s .entry)) p at (rows (now (live .entry))) (rows (now (lists .entry)))) ⌝ }
+{
+    if kind_of(record_at(s, p)) == 4 {
+        let i = at.number - 1;
+        list_instruction(s, p, at.end, live, lists, i);
+        return Spot { end: p, number: i };
+    }
+    at
+}
+
+// The lists of a block's instructions, whose live-out is a row; the number behind its last one is given.
+fn list_block(
+    s: &[u8],
+    start: usize,
+    end: usize,
+    outs: &[u64],
+    b: usize,
+    lists: &mut [u64],
+    behind: usize,
+)
+    requires { ⌜ InRows (now s) × BlockRecords (now s) start end × HasRow (now outs) b × (length (headsFrom (now s) start end) ≤ behind) × (rowWords * behind ≤ length (now lists)) ⌝ }
+    ensures { λ _. ⌜ rows (now (lists .exit)) ≡ fill (behind - length (headsFrom (now (s .entry)) start end)) (crossingsAmong (functionIn (now (s .entry))) (instructionsFrom (now (s .entry)) start end) (rows (now (outs .entry)) b)) (rows (now (lists .entry))) ⌝ }
+{
+    let mut live = [0u64; ROW_WORDS];
+    copy_row(&mut live, 0, outs, b);
+    let mut at = Spot {
+        end,
+        number: behind,
+    };
+    let mut p = end;
+    while p > start {
+        p -= 1;
+        at = list_at(s, p, at, &mut live, lists);
+    }
+}
+
+// The lists of block b, if it is reachable; the number of its first instruction is given. Answers the number behind its
+// last one.
+fn list_reachable(
+    s: &[u8],
+    places: &[usize],
+    index: &[usize],
+    outs: &[u64],
+    b: usize,
+    lists: &mut [u64],
+    first: usize,
+) -> usize
+    requires { ⌜ ListTables (now s) (now places) (now index) (now outs) (length (now lists)) × (b < length (functionIn (now s) .blocks)) × (first ≡ length (crossingsBelow (functionIn (now s)) b)) ⌝ }
+    ensures { λ r. ⌜ (r ≡ length (crossingsBelow (functionIn (now (s .entry))) (b + 1))) × (rows (now (lists .exit)) ≡ fill first (crossings (functionIn (now (s .entry))) b) (rows (now (lists .entry)))) ⌝ }
+{
+    let start = places[b] + 1;
+    let end = places[b + 1];
+    let behind = first + count_instructions(s, start, end);
+    if index[b] != 0 {
+        list_block(s, start, end, outs, b, lists, behind);
+    }
+    behind
+}
+
+// The list of every safepoint of a reachable block, as the row of its number. Answers how many instructions there are.
+fn list_rows(
+    s: &[u8],
+    places: &[usize],
+    blocks: usize,
+    index: &[usize],
+    outs: &[u64],
+    lists: &mut [u64],
+) -> usize
+    requires { ⌜ ListTables (now s) (now places) (now index) (now outs) (length (now lists)) × (blocks ≡ length (functionIn (now s) .blocks)) × Zeros (now lists) ⌝ }
+    ensures { λ r. ⌜ (r ≡ length (listsOf (functionIn (now (s .entry))))) × (rows (now (lists .exit)) ≡ listed (functionIn (now (s .entry)))) ⌝ }
+{
+    let mut first: usize = 0;
+    let mut b: usize = 0;
+    while b < blocks {
+        first = list_reachable(s, places, index, outs, b, lists, first);
+        b += 1;
+    }
+    first
+}
+
+// The first row gets the values of all rows before row count.
+fn join_rows(to: &mut [u64], from: &[u64], count: usize)
+    requires { ⌜ HasRow (now to) 0 × (rowWords * count ≤ length (now from)) ⌝ }
+    ensures { λ _. ⌜ rows (now (to .exit)) ≡ update 0 (union (rows (now (to .entry)) 0) (together count (rows (now (from .entry))))) (rows (now (to .entry))) ⌝ }
+{
+    let mut i: usize = 0;
+    while i < count {
+        join(to, 0, from, i);
+        i += 1;
+    }
+}
+
+// The list of every safepoint of a reachable block, as the row of its number, and the spilled values as one row. Answers
+// how many instructions there are.
+pub fn list_safepoints(
+    s: &[u8],
+    places: &[usize],
+    blocks: usize,
+    index: &[usize],
+    outs: &[u64],
+    lists: &mut [u64],
+    spilled: &mut [u64],
+) -> usize
+    requires { ⌜ ListTables (now s) (now places) (now index) (now outs) (length (now lists)) × (blocks ≡ length (functionIn (now s) .blocks)) × Zeros (now lists) × Zeros (now spilled) × HasRow (now spilled) 0 ⌝ }
+    ensures { λ r. ⌜ (r ≡ length (listsOf (functionIn (now (s .entry))))) × (rows (now (lists .exit)) ≡ listed (functionIn (now (s .entry)))) × (rows (now (spilled .exit)) ≡ update 0 (isSpilled (functionIn (now (s .entry)))) (rows (now (spilled .entry)))) ⌝ }
+{
+    let count = list_rows(s, places, blocks, index, outs, lists);
+    join_rows(spilled, lists, count);
+    count
+}

@@ -1,0 +1,4 @@
+// The lists of all safepoints as rows, from the final live-out, and which values are spilled.
+pub mod blocks;
+pub mod instructions;
+pub mod numbers;
