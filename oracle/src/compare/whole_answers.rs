@@ -4,13 +4,28 @@ use crate::decision::Decision;
 use crate::decision::service::TABLE_WORDS;
 use crate::generate::Random;
 use crate::record::RECORD_BYTES;
-use crate::services::{RewriteAnswer, Services};
+use crate::services::{LivenessServices, RewriteAnswer, Services};
 use std::fmt::Debug;
 
 /// What differs, in words. Lent lengths lie around each boundary, buffers hold garbage before the call, and a few places
 /// behind each must stay as they are.
 pub fn whole_answers(
     subject: &mut dyn Services,
+    decision: &mut Decision,
+    file: &[u8],
+    random: &mut Random,
+) -> Result<(), String> {
+    live_answers(subject, decision, file, random)?;
+    let other = random.pick(&[0, 1, 16, 64, u32::MAX]);
+    for pointer_size in [8, 4, other] {
+        rewrite(subject, decision, file, pointer_size, random)?;
+    }
+    invented_answer(subject, decision, random)
+}
+
+/// The same for the two services of liveness.
+pub fn live_answers(
+    subject: &mut dyn LivenessServices,
     decision: &mut Decision,
     file: &[u8],
     random: &mut Random,
@@ -23,11 +38,7 @@ pub fn whole_answers(
     for instruction in any {
         list(subject, decision, file, instruction, random)?;
     }
-    let other = random.pick(&[0, 1, 16, 64, u32::MAX]);
-    for pointer_size in [8, 4, other] {
-        rewrite(subject, decision, file, pointer_size, random)?;
-    }
-    invented_answer(subject, decision, random)
+    Ok(())
 }
 
 /// The lengths around a boundary: none, one short, exact, longer.
@@ -72,7 +83,7 @@ fn same_buffer<T: PartialEq + Debug>(what: &str, decided: &[T], subject: &[T]) -
 }
 
 fn liveness(
-    subject: &mut dyn Services,
+    subject: &mut dyn LivenessServices,
     decision: &mut Decision,
     file: &[u8],
     live_in: usize,
@@ -88,7 +99,7 @@ fn liveness(
 }
 
 fn list(
-    subject: &mut dyn Services,
+    subject: &mut dyn LivenessServices,
     decision: &mut Decision,
     file: &[u8],
     instruction: u32,

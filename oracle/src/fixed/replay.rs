@@ -2,7 +2,7 @@
 
 use crate::decision::value_set::ROW_WORDS;
 use crate::record::{RECORD_BYTES, Record, bytes};
-use crate::services::{Buffer, ListAnswer, LivenessAnswer, Part, RewriteAnswer, Services};
+use crate::services::{Buffer, ListAnswer, LivenessAnswer, LivenessServices, Part, RewriteAnswer, Services};
 use std::collections::BTreeMap;
 use std::collections::btree_map::Entry;
 use std::fmt::Debug;
@@ -27,8 +27,14 @@ pub fn replay(list: &str, party: &mut dyn Services) -> Result<Replayed, String> 
         let number = replay.replayed.files;
         let said = match letter {
             'N' => replay.file(&mut reader),
-            'L' => replay.liveness(&numbers, &mut reader),
-            'Q' => replay.list(&numbers, &mut reader),
+            'L' => {
+                replay.replayed.liveness += 1;
+                live_tables(replay.party, &replay.file, &numbers, &mut reader)
+            }
+            'Q' => {
+                replay.replayed.lists += 1;
+                list_of_one(replay.party, &replay.file, &numbers, &mut reader)
+            }
             'W' => replay.rewriting(&numbers, &mut reader),
             'G' => replay.invented(&numbers),
             'P' => Ok(()),
@@ -124,6 +130,66 @@ fn file(reader: &mut Reader) -> Result<Vec<u8>, String> {
     Ok(file)
 }
 
+fn live_tables(
+    party: &mut dyn LivenessServices,
+    file: &[u8],
+    numbers: &[u64],
+    reader: &mut Reader,
+) -> Result<(), String> {
+    let [live_in, live_out, refusal, visits, pushes, ins, outs] = exactly(numbers)?;
+    let mut listed = (vec![0; live_in as usize], vec![0; live_out as usize]);
+    fill_rows(reader, 'I', ins, &mut listed.0)?;
+    fill_rows(reader, 'O', outs, &mut listed.1)?;
+    let mut lent = (vec![u64::MAX; live_in as usize], vec![u64::MAX; live_out as usize]);
+    let said = party.liveness(file, &mut lent.0, &mut lent.1);
+    same("liveness", LivenessAnswer { refusal: refusal as u32, visits, pushes }, said)?;
+    same("live tables", listed, lent)
+}
+
+fn list_of_one(
+    party: &mut dyn LivenessServices,
+    file: &[u8],
+    numbers: &[u64],
+    reader: &mut Reader,
+) -> Result<(), String> {
+    let [instruction, lent, refusal, count] = exactly(numbers)?;
+    let mut listed: Vec<u32> = vec![0; lent as usize];
+    if refusal == 0 && count > 0 {
+        let values = reader.line('V').ok_or("line V is missing")?;
+        values.iter().enumerate().for_each(|(at, &value)| listed[at] = value as u32);
+    }
+    let mut lent = vec![u32::MAX; lent as usize];
+    let said = party.list(file, instruction as u32, &mut lent);
+    same(&format!("list of {instruction}"), ListAnswer { refusal: refusal as u32, count }, said)?;
+    same("list", listed, lent)
+}
+
+/// Replays what the list has of the two services of liveness; answers how many lines of each.
+pub fn replay_live(list: &str, party: &mut dyn LivenessServices) -> Result<(u64, u64), String> {
+    let mut reader = Reader { lines: list.lines(), next: None };
+    let (mut number, mut bytes, mut tables, mut lists) = (0, Vec::new(), 0, 0);
+    while let Some((letter, numbers)) = reader.next() {
+        let said = match letter {
+            'N' => {
+                number += 1;
+                bytes = file(&mut reader)?;
+                Ok(())
+            }
+            'L' => {
+                tables += 1;
+                live_tables(party, &bytes, &numbers, &mut reader)
+            }
+            'Q' => {
+                lists += 1;
+                list_of_one(party, &bytes, &numbers, &mut reader)
+            }
+            _ => Ok(()),
+        };
+        said.map_err(|words| format!("file {number}: {words}"))?;
+    }
+    Ok((tables, lists))
+}
+
 struct Replay<'a> {
     party: &'a mut dyn Services,
     file: Vec<u8>,
@@ -138,32 +204,6 @@ impl Replay<'_> {
         self.outputs.clear();
         self.replayed.files += 1;
         Ok(())
-    }
-
-    fn liveness(&mut self, numbers: &[u64], reader: &mut Reader) -> Result<(), String> {
-        let [live_in, live_out, refusal, visits, pushes, ins, outs] = exactly(numbers)?;
-        let mut listed = (vec![0; live_in as usize], vec![0; live_out as usize]);
-        fill_rows(reader, 'I', ins, &mut listed.0)?;
-        fill_rows(reader, 'O', outs, &mut listed.1)?;
-        let mut lent = (vec![u64::MAX; live_in as usize], vec![u64::MAX; live_out as usize]);
-        let said = self.party.liveness(&self.file, &mut lent.0, &mut lent.1);
-        self.replayed.liveness += 1;
-        same("liveness", LivenessAnswer { refusal: refusal as u32, visits, pushes }, said)?;
-        same("live tables", listed, lent)
-    }
-
-    fn list(&mut self, numbers: &[u64], reader: &mut Reader) -> Result<(), String> {
-        let [instruction, lent, refusal, count] = exactly(numbers)?;
-        let mut listed: Vec<u32> = vec![0; lent as usize];
-        if refusal == 0 && count > 0 {
-            let values = reader.line('V').ok_or("line V is missing")?;
-            values.iter().enumerate().for_each(|(at, &value)| listed[at] = value as u32);
-        }
-        let mut lent = vec![u32::MAX; lent as usize];
-        let said = self.party.list(&self.file, instruction as u32, &mut lent);
-        self.replayed.lists += 1;
-        same(&format!("list of {instruction}"), ListAnswer { refusal: refusal as u32, count }, said)?;
-        same("list", listed, lent)
     }
 
     fn rewriting(&mut self, numbers: &[u64], reader: &mut Reader) -> Result<(), String> {
