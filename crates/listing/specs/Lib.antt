@@ -4,3 +4,4 @@ pub mod Stepping
 pub mod Listed
 pub mod Tables
 pub mod Ascending
+pub mod HasList

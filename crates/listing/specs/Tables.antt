@@ -30,12 +30,16 @@ use Rattle.listing.specs.Crossings.{fill, fill-none, crossingsAmong, cro
 use Rattle.listing.specs.Stepping.{headsFrom, instructionsFrom, BlockRecords}
 use Rattle.listing.specs.Listed.{together, length-lists}
 
--- the file by its block table and its blocks' indices, the final live-out of its blocks, and room for a row an instruction
-pub record ListTables (s places index outs : List ℕ) (room : ℕ) : Type 0 where
+-- the file by its block table, and its blocks' indices
+pub record IndexTables (s places index : List ℕ) : Type 0 where
   pub given : Given s places
-  pub values : length (functionIn s .values) ≤ rowValues
   pub indexed : index ≡ indexTable (functionIn s) (length index)
   pub indexRoom : length (functionIn s .blocks) ≤ length index
+
+-- with them the final live-out of its blocks, and room for a row an instruction
+pub record ListTables (s places index outs : List ℕ) (room : ℕ) : Type 0 where
+  pub tables : IndexTables s places index
+  pub values : length (functionIn s .values) ≤ rowValues
   pub live : rows outs ≡ process (functionIn s) .outs
   pub outsRoom : rowWords * length (functionIn s .blocks) ≤ length outs
   pub listsRoom : rowWords * length (lists (functionIn s)) ≤ room
@@ -50,17 +54,66 @@ tag-some n (x ∷ xs) b = go (eqb b x) (tag-some (suc n) xs b)
     go true later = sym (ap not (eqb·suc-zero n))
     go false later = later
 
-module _ {s places index outs : List ℕ} {room : ℕ} (t : ListTables s places index outs room) where
+-- BY BLOCK, with its indices
+module _ {s places index : List ℕ} (t : IndexTables s places index) (b : ℕ) (l : b < length (functionIn s .blocks)) where
   abbrev f : Function
   f = functionIn s
 
+  abbrev start : ℕ
+  start = getD places b 0 + 1
+
+  abbrev end : ℕ
+  end = getD places (b + 1) 0
+
+  pub block-records : BlockRecords s start end
+  block-records =
+      record {
+        ascends = start-less s places (t .given) b l;
+        inside = end-le s places (t .given) b l;
+        body = subst blockBody (sym (body-by-table s places (t .given) b l)) (block-body s (t .given .inOrder) b l);
+      }
+
+  -- its instructions by the table
+  pub instructions-by-table : instructionsFrom s start end ≡ instructionsOf (blockAt f b)
+  instructions-by-table =
+      let first : start ≡ suc (placeOf s b) = add-one (getD places b 0) ∙ ap suc (place-at s places (t .given) b) in
+      let last : end ≡ placeOf s (suc b) = place-at s places (t .given) (b + 1) ∙ ap (placeOf s) (add-one b) in
+      ap₂ (instructionsFrom s) first last ∙ sym (instructions-by-place s (t .given .inOrder) b l)
+
+  pub length-heads : length (headsFrom s start end) ≡ length (crossings f b)
+  length-heads =
+      sym (length-crossings f b ∙ ap length (sym instructions-by-table)
+      ∙ length-map (sectionsAt s end (headsFrom s start end)) instructionOf ∙ length-sectionsAt s end (headsFrom s start end))
+
+  -- the number behind its last one
+  pub behind-block :
+      (first count : ℕ) → first ≡ length (crossingsBelow f b) → count ≡ length (headsFrom s start end)
+      → first + count ≡ length (crossingsBelow f (b + 1))
+  behind-block first count e c =
+      omega (arith, e, c, length-heads, ap length (crossings-more f b), length-append (crossingsBelow f b) (crossings f b))
+
+  -- it is reachable if it has a tag
+  tag-at : has b (reachable f) ≡ not (eqb (getD index b 0) 0)
+  tag-at =
+      tag-some 0 (reachable f) b
+      ∙ ap (λ (x : ℕ). not (eqb x 0))
+      (sym (ap (λ (xs : List ℕ). getD xs b 0) (t .indexed) ∙ indexTable-at f (length index) b (omega (arith, t .indexRoom))))
+
+  pub tag-reachable : (getD index b 0 ≡ 0 → ⊥) → has b (reachable f) ≡ true
+  tag-reachable tag = tag-at ∙ ap not (ne-eqb (getD index b 0) 0 tag)
+
+  pub tag-unreachable : getD index b 0 ≡ 0 → has b (reachable f) ≡ false
+  tag-unreachable tag = tag-at ∙ ap not (eq-eqb (getD index b 0) 0 tag)
+
+module _ {s places index outs : List ℕ} {room : ℕ} (t : ListTables s places index outs room) where
   pub list-in-rows : InRows s
-  list-in-rows = record { inOrder = t .given .inOrder; inFile = t .given .inFile; values = t .values }
+  list-in-rows = record { inOrder = t .tables .given .inOrder; inFile = t .tables .given .inFile; values = t .values }
 
   -- there is room for the instructions of the blocks below one
-  crossings-le : (k b n : ℕ) → b + k ≡ n → length (crossingsBelow f b) ≤ length (crossingsBelow f n)
+  crossings-le : (k b n : ℕ) → b + k ≡ n → length (crossingsBelow (functionIn s) b) ≤ length (crossingsBelow (functionIn s) n)
   crossings-le zero b n e = let same : n ≡ b = omega arith in rw same (omega arith)
   crossings-le (suc k) b n e =
+      let f = functionIn s in
       omega (
         arith,
         crossings-le k (b + 1) n (omega arith),
@@ -68,67 +121,34 @@ module _ {s places index outs : List ℕ} {room : ℕ} (t : ListTables s places 
         length-append (crossingsBelow f b) (crossings f b),
       )
 
-  pub below-fits : (b : ℕ) → b ≤ length (f .blocks) → rowWords * length (crossingsBelow f b) ≤ room
+  pub below-fits : (b : ℕ) → b ≤ length (functionIn s .blocks) → rowWords * length (crossingsBelow (functionIn s) b) ≤ room
   below-fits b l =
-      omega (arith, t .listsRoom, length-lists f, crossings-le (length (f .blocks) - b) b (length (f .blocks)) (omega arith))
+      let n = length (functionIn s .blocks) in
+      omega (arith, t .listsRoom, length-lists (functionIn s), crossings-le (n - b) b n (omega arith))
 
-  module _ (b : ℕ) (l : b < length (f .blocks)) where
-    abbrev start : ℕ
-    start = getD places b 0 + 1
-
-    abbrev end : ℕ
-    end = getD places (b + 1) 0
-
-    pub block-records : BlockRecords s start end
-    block-records =
-        record {
-          ascends = start-less s places (t .given) b l;
-          inside = end-le s places (t .given) b l;
-          body = subst blockBody (sym (body-by-table s places (t .given) b l)) (block-body s (t .given .inOrder) b l);
-        }
-
-    -- its instructions by the table
-    pub instructions-by-table : instructionsFrom s start end ≡ instructionsOf (blockAt f b)
-    instructions-by-table =
-        let first : start ≡ suc (placeOf s b) = add-one (getD places b 0) ∙ ap suc (place-at s places (t .given) b) in
-        let last : end ≡ placeOf s (suc b) = place-at s places (t .given) (b + 1) ∙ ap (placeOf s) (add-one b) in
-        ap₂ (instructionsFrom s) first last ∙ sym (instructions-by-place s (t .given .inOrder) b l)
-
-    length-heads : length (headsFrom s start end) ≡ length (crossings f b)
-    length-heads =
-        sym (length-crossings f b ∙ ap length (sym instructions-by-table)
-        ∙ length-map (sectionsAt s end (headsFrom s start end)) instructionOf ∙ length-sectionsAt s end (headsFrom s start end))
-
-    -- the number behind its last one
-    pub behind-block :
-        (first count : ℕ) → first ≡ length (crossingsBelow f b) → count ≡ length (headsFrom s start end)
-        → first + count ≡ length (crossingsBelow f (b + 1))
-    behind-block first count e c =
-        omega (arith, e, c, length-heads, ap length (crossings-more f b), length-append (crossingsBelow f b) (crossings f b))
-
-    -- its tag
-    tag-at : has b (reachable f) ≡ not (eqb (getD index b 0) 0)
-    tag-at =
-        tag-some 0 (reachable f) b
-        ∙ ap (λ (x : ℕ). not (eqb x 0))
-        (sym (ap (λ (xs : List ℕ). getD xs b 0) (t .indexed) ∙ indexTable-at f (length index) b (omega (arith, t .indexRoom))))
-
+  module _ (b : ℕ) (l : b < length (functionIn s .blocks)) where
     -- a block with a tag has lists,
     pub block-listed :
-        (first behind : ℕ) (lent : ℕ → NumberSet) → (getD index b 0 ≡ 0 → ⊥) → behind ≡ first + length (headsFrom s start end)
-        → fill (behind - length (headsFrom s start end)) (crossingsAmong f (instructionsFrom s start end) (rows outs b)) lent
-        ≡ fill first (crossings f b) lent
+        (first behind : ℕ) (lent : ℕ → NumberSet) → (getD index b 0 ≡ 0 → ⊥)
+        → behind ≡ first + length (headsFrom s (getD places b 0 + 1) (getD places (b + 1) 0))
+        → fill (behind - length (headsFrom s (getD places b 0 + 1) (getD places (b + 1) 0)))
+        (crossingsAmong (functionIn s) (instructionsFrom s (getD places b 0 + 1) (getD places (b + 1) 0)) (rows outs b)) lent
+        ≡ fill first (crossings (functionIn s) b) lent
     block-listed first behind lent tag e =
-        let from : behind - length (headsFrom s start end) ≡ first = omega arith in
-        ap (λ (n : ℕ). fill n (crossingsAmong f (instructionsFrom s start end) (rows outs b)) lent) from
-        ∙ ap₂ (λ (is : List Instruction) (out : NumberSet). fill first (crossingsAmong f is out) lent) instructions-by-table
+        let f = functionIn s in
+        let p = getD places b 0 + 1 in
+        let q = getD places (b + 1) 0 in
+        let from : behind - length (headsFrom s p q) ≡ first = omega arith in
+        ap (λ (n : ℕ). fill n (crossingsAmong f (instructionsFrom s p q) (rows outs b)) lent) from
+        ∙ ap₂ (λ (is : List Instruction) (out : NumberSet). fill first (crossingsAmong f is out) lent) (instructions-by-table (t .tables) b l)
         (ap (λ (r : ℕ → NumberSet). r b) (t .live))
-        ∙ ap (λ xs. fill first xs lent) (sym (crossings-reachable f b (tag-at ∙ ap not (ne-eqb (getD index b 0) 0 tag))))
+        ∙ ap (λ xs. fill first xs lent) (sym (crossings-reachable f b (tag-reachable (t .tables) b l tag)))
 
     -- and one without has none
-    pub block-unlisted : (first : ℕ) (lent : ℕ → NumberSet) → getD index b 0 ≡ 0 → lent ≡ fill first (crossings f b) lent
+    pub block-unlisted : (first : ℕ) (lent : ℕ → NumberSet) → getD index b 0 ≡ 0 → lent ≡ fill first (crossings (functionIn s) b) lent
     block-unlisted first lent tag =
-        sym (ap (λ xs. fill first xs lent) (crossings-unreachable f b (tag-at ∙ ap not (eq-eqb (getD index b 0) 0 tag)))
+        let f = functionIn s in
+        sym (ap (λ xs. fill first xs lent) (crossings-unreachable f b (tag-unreachable (t .tables) b l tag))
         ∙ fill-none (instructionsOf (blockAt f b)) first lent)
 
 -- ROWS TOGETHER, one more

@@ -2,3 +2,4 @@
 pub mod blocks;
 pub mod instructions;
 pub mod numbers;
+pub mod safepoints;

@@ -13,10 +13,10 @@ mul-start : tie.Need-mul-start
 mul-start c = search needs
 
 shared-slice-read-start : tie.Need-shared-slice-read-start
-shared-slice-read-start c = omega (arith, c .before .before .before .before .before .before .pre .1, places-long (c .before .before .before .before .before .before .args .s .now) (c .before .before .before .before .before .before .args .places .now) (c .before .before .before .before .before .before .pre .0 .given))
+shared-slice-read-start c = omega (arith, c .before .before .before .before .before .before .pre .1, places-long (c .before .before .before .before .before .before .args .s .now) (c .before .before .before .before .before .before .args .places .now) (c .before .before .before .before .before .before .pre .0 .tables .given))
 
 add-start : tie.Need-add-start
-add-start c = omega (arith, start-less (c .before .before .before .before .before .before .args .s .now) (c .before .before .before .before .before .before .args .places .now) (c .before .before .before .before .before .before .pre .0 .given) (c .before .before .before .before .before .before .args .b) (c .before .before .before .before .before .before .pre .1), end-le (c .before .before .before .before .before .before .args .s .now) (c .before .before .before .before .before .before .args .places .now) (c .before .before .before .before .before .before .pre .0 .given) (c .before .before .before .before .before .before .args .b) (c .before .before .before .before .before .before .pre .1))
+add-start c = omega (arith, start-less (c .before .before .before .before .before .before .args .s .now) (c .before .before .before .before .before .before .args .places .now) (c .before .before .before .before .before .before .pre .0 .tables .given) (c .before .before .before .before .before .before .args .b) (c .before .before .before .before .before .before .pre .1), end-le (c .before .before .before .before .before .before .args .s .now) (c .before .before .before .before .before .before .args .places .now) (c .before .before .before .before .before .before .pre .0 .tables .given) (c .before .before .before .before .before .before .args .b) (c .before .before .before .before .before .before .pre .1))
 
 add-end : tie.Need-add-end
 add-end c = search needs
@@ -25,14 +25,14 @@ mul-end : tie.Need-mul-end
 mul-end c = search needs
 
 shared-slice-read-end : tie.Need-shared-slice-read-end
-shared-slice-read-end c = omega (arith, c .before .before .before .before .before .before .before .pre .1, places-long (c .before .before .before .before .before .before .before .args .s .now) (c .before .before .before .before .before .before .before .args .places .now) (c .before .before .before .before .before .before .before .pre .0 .given))
+shared-slice-read-end c = omega (arith, c .before .before .before .before .before .before .before .pre .1, places-long (c .before .before .before .before .before .before .before .args .s .now) (c .before .before .before .before .before .before .before .args .places .now) (c .before .before .before .before .before .before .before .pre .0 .tables .given))
 
 count-instructions-requires : tie.Need-count-instructions-requires
-count-instructions-requires c κs = (start-less (c .before .before .before .before .before .before .before .args .s .now) (c .before .before .before .before .before .before .before .args .places .now) (c .before .before .before .before .before .before .before .pre .0 .given) (c .before .before .before .before .before .before .before .args .b) (c .before .before .before .before .before .before .before .pre .1), end-le (c .before .before .before .before .before .before .before .args .s .now) (c .before .before .before .before .before .before .before .args .places .now) (c .before .before .before .before .before .before .before .pre .0 .given) (c .before .before .before .before .before .before .before .args .b) (c .before .before .before .before .before .before .before .pre .1))
+count-instructions-requires c κs = (start-less (c .before .before .before .before .before .before .before .args .s .now) (c .before .before .before .before .before .before .before .args .places .now) (c .before .before .before .before .before .before .before .pre .0 .tables .given) (c .before .before .before .before .before .before .before .args .b) (c .before .before .before .before .before .before .before .pre .1), end-le (c .before .before .before .before .before .before .before .args .s .now) (c .before .before .before .before .before .before .before .args .places .now) (c .before .before .before .before .before .before .before .pre .0 .tables .given) (c .before .before .before .before .before .before .before .args .b) (c .before .before .before .before .before .before .before .pre .1))
 
 add-behind : tie.Need-add-behind
 add-behind c =
-    let n = behind-block (c .before .before .before .before .before .before .before .before .pre .0) (c .before .before .before .before .before .before .before .before .args .b) (c .before .before .before .before .before .before .before .before .pre .1) (c .before .before .before .before .before .before .before .before .args .first) (c .count-instructions .result) (c .before .before .before .before .before .before .before .before .pre .2) (c .count-instructions .ensures) in
+    let n = behind-block (c .before .before .before .before .before .before .before .before .pre .0 .tables) (c .before .before .before .before .before .before .before .before .args .b) (c .before .before .before .before .before .before .before .before .pre .1) (c .before .before .before .before .before .before .before .before .args .first) (c .count-instructions .result) (c .before .before .before .before .before .before .before .before .pre .2) (c .count-instructions .ensures) in
     omega (arith, n, below-fits (c .before .before .before .before .before .before .before .before .pre .0) (c .before .before .before .before .before .before .before .before .args .b + 1) (omega (arith, c .before .before .before .before .before .before .before .before .pre .1)))
 
 mul-if1 : tie.Need-mul-if1
@@ -43,9 +43,9 @@ shared-slice-read-if1 c = search needs
 
 list-block-requires : tie.Need-list-block-requires
 list-block-requires c κs =
-    let n = behind-block (c .before .before .before .before .before .before .before .before .before .before .before .pre .0) (c .before .before .before .before .before .before .before .before .before .before .before .args .b) (c .before .before .before .before .before .before .before .before .before .before .before .pre .1) (c .before .before .before .before .before .before .before .before .before .before .before .args .first) (c .before .before .before .count-instructions .result) (c .before .before .before .before .before .before .before .before .before .before .before .pre .2) (c .before .before .before .count-instructions .ensures) in (
+    let n = behind-block (c .before .before .before .before .before .before .before .before .before .before .before .pre .0 .tables) (c .before .before .before .before .before .before .before .before .before .before .before .args .b) (c .before .before .before .before .before .before .before .before .before .before .before .pre .1) (c .before .before .before .before .before .before .before .before .before .before .before .args .first) (c .before .before .before .count-instructions .result) (c .before .before .before .before .before .before .before .before .before .before .before .pre .2) (c .before .before .before .count-instructions .ensures) in (
       list-in-rows (c .before .before .before .before .before .before .before .before .before .before .before .pre .0),
-      block-records (c .before .before .before .before .before .before .before .before .before .before .before .pre .0) (c .before .before .before .before .before .before .before .before .before .before .before .args .b) (c .before .before .before .before .before .before .before .before .before .before .before .pre .1),
+      block-records (c .before .before .before .before .before .before .before .before .before .before .before .pre .0 .tables) (c .before .before .before .before .before .before .before .before .before .before .before .args .b) (c .before .before .before .before .before .before .before .before .before .before .before .pre .1),
       omega (arith, c .before .before .before .before .before .before .before .before .before .before .before .pre .1, c .before .before .before .before .before .before .before .before .before .before .before .pre .0 .outsRoom),
       omega (arith, c .before .before .before .count-instructions .ensures),
       omega (arith, n, below-fits (c .before .before .before .before .before .before .before .before .before .before .before .pre .0) (c .before .before .before .before .before .before .before .before .before .before .before .args .b + 1) (omega (arith, c .before .before .before .before .before .before .before .before .before .before .before .pre .1))),
@@ -56,13 +56,13 @@ same-length c = search needs
 
 returns : tie.Need-returns
 returns c = (
-  behind-block (c .before .before .before .before .before .before .before .before .before .before .before .before .before .before .pre .0) (c .before .before .before .before .before .before .before .before .before .before .before .before .before .before .args .b) (c .before .before .before .before .before .before .before .before .before .before .before .before .before .before .pre .1) (c .before .before .before .before .before .before .before .before .before .before .before .before .before .before .args .first) (c .before .before .before .before .before .before .count-instructions .result) (c .before .before .before .before .before .before .before .before .before .before .before .before .before .before .pre .2) (c .before .before .before .before .before .before .count-instructions .ensures),
+  behind-block (c .before .before .before .before .before .before .before .before .before .before .before .before .before .before .pre .0 .tables) (c .before .before .before .before .before .before .before .before .before .before .before .before .before .before .args .b) (c .before .before .before .before .before .before .before .before .before .before .before .before .before .before .pre .1) (c .before .before .before .before .before .before .before .before .before .before .before .before .before .before .args .first) (c .before .before .before .before .before .before .count-instructions .result) (c .before .before .before .before .before .before .before .before .before .before .before .before .before .before .pre .2) (c .before .before .before .before .before .before .count-instructions .ensures),
   c .before .before .list-block .ensures ∙ block-listed (c .before .before .before .before .before .before .before .before .before .before .before .before .before .before .pre .0) (c .before .before .before .before .before .before .before .before .before .before .before .before .before .before .args .b) (c .before .before .before .before .before .before .before .before .before .before .before .before .before .before .pre .1) (c .before .before .before .before .before .before .before .before .before .before .before .before .before .before .args .first) (c .before .before .before .before .before .before .before .before .before .before .before .before .before .before .args .first + c .before .before .before .before .before .before .count-instructions .result) (rows (c .before .before .before .before .before .before .before .before .before .before .before .before .before .before .args .lists .now)) (c .before .before .before .before .if1 .taken) (ap (λ (n : ℕ). c .before .before .before .before .before .before .before .before .before .before .before .before .before .before .args .first + n) (c .before .before .before .before .before .before .count-instructions .ensures)),
 )
 
 returns-2 : tie.Need-returns-2
 returns-2 c = (
-  behind-block (c .before .before .before .before .before .before .before .before .before .before .pre .0) (c .before .before .before .before .before .before .before .before .before .before .args .b) (c .before .before .before .before .before .before .before .before .before .before .pre .1) (c .before .before .before .before .before .before .before .before .before .before .args .first) (c .before .before .count-instructions .result) (c .before .before .before .before .before .before .before .before .before .before .pre .2) (c .before .before .count-instructions .ensures),
+  behind-block (c .before .before .before .before .before .before .before .before .before .before .pre .0 .tables) (c .before .before .before .before .before .before .before .before .before .before .args .b) (c .before .before .before .before .before .before .before .before .before .before .pre .1) (c .before .before .before .before .before .before .before .before .before .before .args .first) (c .before .before .count-instructions .result) (c .before .before .before .before .before .before .before .before .before .before .pre .2) (c .before .before .count-instructions .ensures),
   block-unlisted (c .before .before .before .before .before .before .before .before .before .before .pre .0) (c .before .before .before .before .before .before .before .before .before .before .args .b) (c .before .before .before .before .before .before .before .before .before .before .pre .1) (c .before .before .before .before .before .before .before .before .before .before .args .first) (rows (c .before .before .before .before .before .before .before .before .before .before .args .lists .now)) (c .if1 .left),
 )
 
