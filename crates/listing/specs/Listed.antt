@@ -169,6 +169,15 @@ module _ (f : Function) where
       go none e = refl
       go (some set) e = absurd (subst T (sym e) tt)
 
+  -- No list has a number that is no value of the file.
+  pub listed-far : (i v : ℕ) → n ≤ v → listed f i v ≡ false
+  listed-far i v l =
+      T-ext (listed f i v) false
+      (λ t.
+      let low = low-all (upFrom 0 (length (f .blocks))) i v (subst (λ (set : ℕ → NumberSet). T (set i v)) (sym shown-listed) t) in
+      absurd (omega (arith, low, l)))
+      (λ t. absurd t)
+
 -- SPILLED VALUES. The values of rows below n together
 abbrev pub together : ℕ → (ℕ → NumberSet) → NumberSet
 together n t v = any (λ i. t i v) (upFrom 0 n)
