@@ -13,13 +13,13 @@ use Rattle.rules.specs.Tree.{Edge}
 use Rattle.rules.specs.declared.Words.{Words}
 use Rattle.rules.specs.Records.{wordAt, slotSizes, log2, encode, kind, edgeArgument, decode, recordAt, recordCount, eachFrom, records, firstWords}
 use Rattle.rules.specs.File.{Section, cut, ofKind, blockOf, function, functionIn, ordered}
-use Rattle.rules.specs.Refusals.{tooMany, allEdges}
+use Rattle.rules.specs.Refusals.{tooMany, allInstructions, allEdges}
 use Rattle.rules.specs.declared.EdgeArgument.{EdgeArgument}
 use Rattle.rules.specs.declared.EdgeArgument.the-variants as passes
 use Rattle.rules.specs.declared.Record.{Record}
 use Rattle.rules.specs.declared.Record.the-variants as record′
 use Rattle.lists.specs.Tests.{eqb-swap, or-left, or-right}
-use Rattle.records.specs.Parts.{cut-heads, targets-in-order}
+use Rattle.records.specs.Parts.{cut-heads, headWords, instructions-in-order, targets-in-order}
 use Rattle.records.specs.Values.{valueOf}
 
 -- A RECORD OF A KIND has that number for its first word, unless the kind is 0.
@@ -153,7 +153,23 @@ module _ (s : List ℕ) (few : T (not (tooMany s))) where
         nltb→le largestBlocks (of 2) (not-above (ltb largestBlocks (of 2)) third),
       )
 
-  -- and its edges, if it is in order.
+  fourth : T (ltb largestInstructions (of 4)) → T (tooMany s)
+  fourth h =
+      or-left (before || ltb largestBlocks (of 2) || ltb largestInstructions (of 4)) (ltb largestEdges (of 7))
+      (or-right (before || ltb largestBlocks (of 2)) (ltb largestInstructions (of 4)) h)
+
+  -- and, if it is in order, its instructions
+  pub instructions-few : T (ordered 0 (records s)) → length (allInstructions (functionIn s)) ≤ largestInstructions
+  instructions-few h =
+      omega (
+        arith,
+        length-map (allInstructions (functionIn s)) headWords,
+        ap length (instructions-in-order (records s) h),
+        ofKind-le 4 tt s,
+        nltb→le largestInstructions (of 4) (not-above (ltb largestInstructions (of 4)) fourth),
+      )
+
+  -- and its edges.
   pub edges-few : T (ordered 0 (records s)) → length (allEdges (functionIn s)) ≤ largestEdges
   edges-few h =
       omega (

@@ -1,2 +1,3 @@
+pub mod ListAnswers
 pub mod LiveAnswers
 pub mod Zeroed

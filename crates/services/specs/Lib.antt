@@ -1,1 +1,3 @@
 pub mod Live
+pub mod ListRow
+pub mod Outcomes

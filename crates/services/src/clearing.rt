@@ -12,3 +12,14 @@ pub fn clear_words(t: &mut [u64])
         i += 1;
     }
 }
+
+// Every number of a list becomes 0.
+pub fn clear_numbers(t: &mut [u32])
+    ensures { λ _. ⌜ now (t .exit) ≡ replicate (length (now (t .entry))) 0 ⌝ }
+{
+    let mut i: usize = 0;
+    while i < t.len() {
+        t[i] = 0;
+        i += 1;
+    }
+}

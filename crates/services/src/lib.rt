@@ -1,5 +1,6 @@
 // The public services. Each takes any bytes, owns the tables that it needs, and asks nothing of its caller.
 pub mod check;
 mod clearing;
+pub mod list;
 pub mod liveness;
 mod tables;

@@ -2,7 +2,10 @@
 ghost use mathlib.Core.Path.{_≡_};
 ghost use lib.ListN.{length, replicate};
 ghost use Rattle.rules.specs.Services.{listAnswer, listWords};
+ghost use Prim.Native.Nat.{_≤_};
+ghost use Rattle.rows.specs.Rows.{rows, rowValues, HasRow};
 ghost use Rattle.services.specs.Live.{Indexed};
+ghost use Rattle.services.specs.ListRow.{rowAnswer, rowNumbers};
 use crate::clearing::clear_numbers;
 use crate::tables::live_tables;
 use acceptance::survey::BlockCounts;
@@ -19,6 +22,13 @@ use rules::ListAnswer;
 use rules::ROW_WORDS;
 use rules::TABLE_WORDS;
 use rules::Verdict;
+
+fn narrow(count: usize) -> u32
+    requires { ⌜ count ≤ rowValues ⌝ }
+    ensures { λ r. ⌜ r ≡ count ⌝ }
+{
+    count as u32
+}
 
 // Refusal 11, with the count that is needed, or the list, at the front of a cleared buffer; by the rows of all lists.
 fn list_row(lists: &[u64], i: usize, out: &mut [u32]) -> ListAnswer

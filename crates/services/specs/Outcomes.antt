@@ -1,0 +1,37 @@
+-- Any two outcomes that a service's contract allows are equal: its answer and every lent buffer, to its end.
+use Prim.Native.Nat.{ℕ}
+use mathlib.Core.Path.{_≡_, sym, _∙_}
+use mathlib.Core.List.{List}
+use Rattle.rules.specs.Refusals.{firstOf, fileRefusals}
+use Rattle.rules.specs.Services.{livenessAnswer, livenessIns, livenessOuts, listAnswer, listWords}
+use Rattle.rules.specs.declared.Verdict.{Verdict}
+use Rattle.rules.specs.declared.LivenessAnswer.{LivenessAnswer}
+use Rattle.rules.specs.declared.ListAnswer.{ListAnswer}
+
+-- what `check_file` may answer of a file
+abbrev pub CheckAllows : List ℕ → Verdict → Type 0
+CheckAllows s v = v ≡ firstOf (fileRefusals s)
+
+pub check-outcomes-equal : {s : List ℕ} {v w : Verdict} → CheckAllows s v → CheckAllows s w → v ≡ w
+check-outcomes-equal a b = a ∙ sym b
+
+-- what `liveness` may leave of a file and two lent tables
+pub record LivenessAllows (s : List ℕ) (n m : ℕ) (answer : LivenessAnswer) (ins outs : List ℕ) : Type 0 where
+  pub answers : answer ≡ livenessAnswer s n m
+  pub live-in : ins ≡ livenessIns s n m
+  pub live-out : outs ≡ livenessOuts s n m
+
+pub liveness-outcomes-equal :
+    {s : List ℕ} {n m : ℕ} {a b : LivenessAnswer} {ins outs ins′ outs′ : List ℕ}
+    → LivenessAllows s n m a ins outs → LivenessAllows s n m b ins′ outs′ → (a ≡ b) × (ins ≡ ins′) × (outs ≡ outs′)
+liveness-outcomes-equal x y = (x .answers ∙ sym (y .answers), x .live-in ∙ sym (y .live-in), x .live-out ∙ sym (y .live-out))
+
+-- what `list` may leave of a file, an instruction and a lent list
+pub record ListAllows (s : List ℕ) (i n : ℕ) (answer : ListAnswer) (numbers : List ℕ) : Type 0 where
+  pub answers : answer ≡ listAnswer s i n
+  pub words : numbers ≡ listWords s i n
+
+pub list-outcomes-equal :
+    {s : List ℕ} {i n : ℕ} {a b : ListAnswer} {numbers numbers′ : List ℕ}
+    → ListAllows s i n a numbers → ListAllows s i n b numbers′ → (a ≡ b) × (numbers ≡ numbers′)
+list-outcomes-equal x y = (x .answers ∙ sym (y .answers), x .words ∙ sym (y .words))
