@@ -13,7 +13,7 @@ use Rattle.planning.specs.declared.operands.Operand.{Operand}
 use Rattle.planning.specs.declared.operands.Operand.the-variants as operand
 use Rattle.planning.specs.Operands.{amongOf, Reading, operandAt, useAt, defineBy, defineAt}
 use Rattle.planning.specs.Standing.{Tables, tables, planOf, Good, Ran, Walked}
-use Rattle.planning.proofs.Walking.{next-value, walked-none, walked-some}
+use Rattle.planning.specs.Walking.{next-value, walked-none, walked-some}
 use Rattle.planning.proofs.Naming.{among-value, in-row, use-spilled, use-other, define-spilled, define-other}
 use Rattle.planning.proofs.Storing.{stored, stored-number}
 

@@ -1,12 +1,13 @@
 -- What the record at a place does in planning: which value it uses or defines, and the step of the rules that it is.
-use Prim.Native.Nat.{ℕ, _<_}
+use Prim.Native.Nat.{ℕ, _≤_}
 use mathlib.Core.Path.{_≡_}
 use mathlib.Core.Bool.{true, cond}
 use mathlib.Core.Option.{none}
 use mathlib.Core.List.{List}
+use lib.ListN.{length}
 use lib.Dec.{eqb}
 use Rattle.rules.specs.Lists.{NumberSet}
-use Rattle.rules.specs.Records.{encode, recordAt, records}
+use Rattle.rules.specs.Records.{encode, recordAt, recordCount, records}
 use Rattle.rules.specs.File.{ordered, functionIn}
 use Rattle.rules.specs.Liveness.{isSpilled}
 use Rattle.rules.specs.Plan.{Made, Planning, pure, planUse, planDefinition}
@@ -32,6 +33,12 @@ pub record Reading (s spilled : List ℕ) : Type 0 where
   pub inOrder : ordered 0 (records s) ≡ true
   pub row : HasRow spilled 0
   pub isRow : rows spilled 0 ≡ isSpilled (functionIn s)
+
+-- places of the file, beside each of which there is one for a number
+pub record Range (s numbers : List ℕ) (start end : ℕ) : Type 0 where
+  pub up : start ≤ end
+  pub inFile : end ≤ recordCount s
+  pub inNumbers : end ≤ length numbers
 
 module _ (s : List ℕ) where
   unfoldable pub operandAt : ℕ → ℕ → Operand

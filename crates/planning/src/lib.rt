@@ -2,6 +2,7 @@
 // and blocks. Slots themselves are no part of it: a new value's number never depends on a slot's, only on whether a value
 // has been asked for. So asks and frees are noted as a list of steps, which is replayed afterwards.
 pub mod operands;
+pub mod runs;
 pub mod steps;
 
 // How far planning has come.
