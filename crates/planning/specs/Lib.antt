@@ -1,3 +1,4 @@
 pub mod Standing
 pub mod Operands
 pub mod Walking
+pub mod Marks

@@ -42,10 +42,11 @@ fn load(
     requires { ⌜ (ordered 0 (records (now s)) ≡ true) × (v < rowValues) × Good (functionIn (now s)) (tables (now asked) (now steps) (now sizes) p) 1 ⌝ }
     ensures { λ r. ⌜ Ran (functionIn (now (s .entry))) (planLoad (functionIn (now (s .entry))) (p .pointer) v) 1 (tables (now (asked .entry)) (now (steps .entry)) (now (sizes .entry)) p) (tables (now (asked .exit)) (now (steps .exit)) (now (sizes .exit)) r) ⌝ }
 {
+    let size = size_of(s, v as u32);
     let count = ask(v, asked, steps, p.steps);
     let first = p.made;
     sizes[first] = p.pointer;
-    sizes[first + 1] = size_of(s, v as u32);
+    sizes[first + 1] = size;
     Progress {
         pointer: p.pointer,
         given: p.given,
@@ -98,14 +99,14 @@ pub fn plan_definition(
     match among(asked, among(spilled, operand_at(s, kind, place))) {
         Operand::Value(v) => {
             numbers[place] = (p.given + p.made + 1) as u32;
-            let first = p.made;
-            sizes[first] = p.pointer;
+            let next = p.made;
+            sizes[next] = p.pointer;
             let count = p.steps;
             steps[count] = 2 * v + 1;
             Progress {
                 pointer: p.pointer,
                 given: p.given,
-                made: first + 1,
+                made: next + 1,
                 blocks: p.blocks,
                 steps: count + 1,
             }
