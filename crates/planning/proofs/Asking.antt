@@ -19,7 +19,7 @@ use Rattle.lists.specs.Lack.{lack, one, lack-drop}
 use Rattle.sharing.specs.SlotSteps.{SlotStep, gives, frees, taken, replayed, replayed-append}
 use Rattle.rows.specs.Rows.{rows, rowValues}
 use Rattle.rules.specs.Plan.{Plan, planLoad}
-use Rattle.planning.specs.Standing.{stepOf, noted, unmarked, newValues, Tables, tables, Asked, slotsBy, Good, Ran}
+use Rattle.planning.specs.Standing.{stepOf, noted, unmarked, newValues, Tables, tables, Asked, slotsBy, Known, Good, Ran}
 use Rattle.planning.specs.declared.Progress.{Progress}
 
 pub give-number : (v : ℕ) → stepOf (2 * v) ≡ gives v
@@ -82,12 +82,7 @@ give-has v size p w e = go (p .slotOf v) e (p .free size)
     go (some _) e free = absurd (subst T e tt)
 
 -- A SLOT ASKED FOR
-module _ (f : Function) (v : ℕ) (low : v < rowValues) (asked steps : List ℕ) (n : ℕ)
-    (known : (w : ℕ) → w < rowValues → rows asked 0 w ≡ not (isNone (slotsBy f steps n .slotOf w)))
-    (k : ℕ) (room : n + lack one rowValues (rows asked 0) + k ≤ length steps) where
-  abbrev slots : StackSlots
-  slots = slotsBy f steps n
-
+module _ (v : ℕ) (low : v < rowValues) (asked steps : List ℕ) (n k : ℕ) (room : n + lack one rowValues (rows asked 0) + k ≤ length steps) where
   -- one value fewer is left to be asked for
   asking-drop : rows asked 0 v ≡ false → lack one rowValues (adding (v ∷ []) (rows asked 0)) + 1 ≤ lack one rowValues (rows asked 0)
   asking-drop e =
@@ -100,37 +95,7 @@ module _ (f : Function) (v : ℕ) (low : v < rowValues) (asked steps : List ℕ)
   asking-room e = omega (arith, asking-drop e, room)
 
   module _ (asked′ steps′ : List ℕ) (n′ : ℕ) (a : Asked v asked steps n asked′ steps′ n′) where
-    -- the value is given its slot,
-    pub asked-slots : slotsBy f steps′ n′ ≡ giveSlot v (sizeOf f v) slots
-    asked-slots = go (rows asked 0 v) refl
-      where
-        go : (b : Bool) → rows asked 0 v ≡ b → slotsBy f steps′ n′ ≡ giveSlot v (sizeOf f v) slots
-        go true e =
-            let same : steps′ ≡ steps = a .step ∙ ap (λ b. cond b steps (set steps n (2 * v))) e in
-            let count : n′ ≡ n = a .counted ∙ ap (λ b. cond b n (n + 1)) e in
-            ap₂ (slotsBy f) same count ∙ sym (give-again v (sizeOf f v) slots (sym (known v low) ∙ e))
-        go false e =
-            let more : steps′ ≡ set steps n (2 * v) = a .step ∙ ap (λ b. cond b steps (set steps n (2 * v))) e in
-            let count : n′ ≡ n + 1 = a .counted ∙ ap (λ b. cond b n (n + 1)) e in
-            ap₂ (slotsBy f) more count
-            ∙ slots-more f steps n (2 * v) (asking-room e)
-            ∙ ap (λ (x : SlotStep). taken (sizeOf f) x slots) (give-number v)
-
-    -- the row knows it,
-    pub asked-known : (w : ℕ) → w < rowValues → rows asked′ 0 w ≡ not (isNone (slotsBy f steps′ n′ .slotOf w))
-    asked-known w l = go (rows asked 0 v) refl ∙ sym (ap (λ (p : StackSlots). not (isNone (p .slotOf w))) asked-slots)
-      where
-        go : (b : Bool) → rows asked 0 v ≡ b → rows asked′ 0 w ≡ not (isNone (giveSlot v (sizeOf f v) slots .slotOf w))
-        go true e =
-            ap (λ (r : ℕ → NumberSet). r 0 w) (a .row ∙ ap (λ b. cond b (rows asked) (update 0 (adding (v ∷ []) (rows asked 0)) (rows asked))) e)
-            ∙ known w l
-            ∙ sym (ap (λ (p : StackSlots). not (isNone (p .slotOf w))) (give-again v (sizeOf f v) slots (sym (known v low) ∙ e)))
-        go false e =
-            ap (λ (r : ℕ → NumberSet). r 0 w) (a .row ∙ ap (λ b. cond b (rows asked) (update 0 (adding (v ∷ []) (rows asked 0)) (rows asked))) e)
-            ∙ ap (λ b. (eqb w v || false) || b) (known w l)
-            ∙ sym (give-has v (sizeOf f v) slots w (sym (known v low) ∙ e))
-
-    -- and there is as much room for all else
+    -- there is as much room for all else,
     pub asked-room : n′ + lack one rowValues (rows asked′ 0) + k ≤ length steps′
     asked-room = go (rows asked 0 v) refl
       where
@@ -145,6 +110,40 @@ module _ (f : Function) (v : ℕ) (low : v < rowValues) (asked steps : List ℕ)
             let row : rows asked′ 0 ≡ adding (v ∷ []) (rows asked 0) =
             ap (λ (r : ℕ → NumberSet). r 0) (a .row ∙ ap (λ b. cond b (rows asked) (update 0 (adding (v ∷ []) (rows asked 0)) (rows asked))) e) in
             rw row (omega (arith, count, room, a .stepsLong, asking-drop e))
+
+    module _ (f : Function) (known : Known f asked steps n) where
+      abbrev slots : StackSlots
+      slots = slotsBy f steps n
+
+      -- the value is given its slot,
+      pub asked-slots : slotsBy f steps′ n′ ≡ giveSlot v (sizeOf f v) slots
+      asked-slots = go (rows asked 0 v) refl
+        where
+          go : (b : Bool) → rows asked 0 v ≡ b → slotsBy f steps′ n′ ≡ giveSlot v (sizeOf f v) slots
+          go true e =
+              let same : steps′ ≡ steps = a .step ∙ ap (λ b. cond b steps (set steps n (2 * v))) e in
+              let count : n′ ≡ n = a .counted ∙ ap (λ b. cond b n (n + 1)) e in
+              ap₂ (slotsBy f) same count ∙ sym (give-again v (sizeOf f v) slots (sym (known v low) ∙ e))
+          go false e =
+              let more : steps′ ≡ set steps n (2 * v) = a .step ∙ ap (λ b. cond b steps (set steps n (2 * v))) e in
+              let count : n′ ≡ n + 1 = a .counted ∙ ap (λ b. cond b n (n + 1)) e in
+              ap₂ (slotsBy f) more count
+              ∙ slots-more f steps n (2 * v) (asking-room e)
+              ∙ ap (λ (x : SlotStep). taken (sizeOf f) x slots) (give-number v)
+
+      -- and the row knows it
+      pub asked-known : Known f asked′ steps′ n′
+      asked-known w l = go (rows asked 0 v) refl ∙ sym (ap (λ (p : StackSlots). not (isNone (p .slotOf w))) asked-slots)
+        where
+          go : (b : Bool) → rows asked 0 v ≡ b → rows asked′ 0 w ≡ not (isNone (giveSlot v (sizeOf f v) slots .slotOf w))
+          go true e =
+              ap (λ (r : ℕ → NumberSet). r 0 w) (a .row ∙ ap (λ b. cond b (rows asked) (update 0 (adding (v ∷ []) (rows asked 0)) (rows asked))) e)
+              ∙ known w l
+              ∙ sym (ap (λ (p : StackSlots). not (isNone (p .slotOf w))) (give-again v (sizeOf f v) slots (sym (known v low) ∙ e)))
+          go false e =
+              ap (λ (r : ℕ → NumberSet). r 0 w) (a .row ∙ ap (λ b. cond b (rows asked) (update 0 (adding (v ∷ []) (rows asked 0)) (rows asked))) e)
+              ∙ ap (λ b. (eqb w v || false) || b) (known w l)
+              ∙ sym (give-has v (sizeOf f v) slots w (sym (known v low) ∙ e))
 
 -- plans are equal by their parts
 pub plan-same :
@@ -165,7 +164,7 @@ module _ (f : Function) (v : ℕ) (low : v < rowValues) (asked steps sizes : Lis
   loaded asked′ steps′ n size g a is =
       record {
         state =
-            plan-same (asked-slots f v low asked steps (p .steps) (g .known) 1 (g .roomSteps) asked′ steps′ n a)
+            plan-same (asked-slots v low asked steps (p .steps) 1 (g .roomSteps) asked′ steps′ n a f (g .known))
             (two-values ∙ ap (λ (x : ℕ). ((f .values ++ newValues sizes (p .made)) ++ (unmarked (p .pointer) ∷ [])) ++ (unmarked x ∷ [])) is);
         kept =
             record {
@@ -175,9 +174,9 @@ module _ (f : Function) (v : ℕ) (low : v < rowValues) (asked steps sizes : Lis
                     counted = h .counted;
                     few = h .few;
                     row = omega (arith, h .row, a .askedLong);
-                    known = asked-known f v low asked steps (p .steps) (h .known) (1 + k) (h .roomSteps) asked′ steps′ n a;
+                    known = asked-known v low asked steps (p .steps) (1 + k) (h .roomSteps) asked′ steps′ n a f (h .known);
                     roomSteps =
-                        omega (arith, asked-room f v low asked steps (p .steps) (h .known) (1 + k) (h .roomSteps) asked′ steps′ n a);
+                        omega (arith, asked-room v low asked steps (p .steps) (1 + k) (h .roomSteps) asked′ steps′ n a);
                     roomSizes = simp length-set (omega (arith, h .roomSizes));
                     small = simp length-set (h .small);
                   };

@@ -2,3 +2,4 @@ pub mod Asking
 pub mod Naming
 pub mod Storing
 pub mod OneRecord
+pub mod Slotting

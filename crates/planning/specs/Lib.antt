@@ -2,3 +2,4 @@ pub mod Standing
 pub mod Operands
 pub mod Walking
 pub mod Marks
+pub mod SlotsGiven

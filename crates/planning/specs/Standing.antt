@@ -8,10 +8,10 @@ use mathlib.Core.List.{List, [], _∷_, _++_, map}
 use lib.ListN.{length, getD, set, take}
 use lib.Dec.{eqb}
 use Rattle.rules.specs.Limits.{largestRecords, largestValues}
-use Rattle.rules.specs.Lists.{isNone, update, adding}
+use Rattle.rules.specs.Lists.{keep, isNone, upFrom, update, NumberSet, adding}
 use Rattle.rules.specs.Tree.{Value, Function}
 use Rattle.rules.specs.Graph.{sizeOf}
-use Rattle.rules.specs.Slots.{StackSlots, noSlots}
+use Rattle.rules.specs.Slots.{StackSlots, noSlots, giveSlot}
 use Rattle.rules.specs.Plan.{Plan, Made, Planning}
 use Rattle.lists.specs.Lack.{lack, one}
 use Rattle.sharing.specs.SlotSteps.{SlotStep, gives, frees, replayed}
@@ -57,6 +57,15 @@ module _ (f : Function) where
   unfoldable pub slotsBy : List ℕ → ℕ → StackSlots
   slotsBy steps n = replayed (sizeOf f) (noted steps n) noSlots
 
+  -- the row tells who has a slot
+  abbrev pub Known : List ℕ → List ℕ → ℕ → Type 0
+  Known asked steps n = (v : ℕ) → v < rowValues → rows asked 0 v ≡ not (isNone (slotsBy steps n .slotOf v))
+
+  -- a slot for each member of a list that has none
+  abbrev pub giveAll : List ℕ → StackSlots → StackSlots
+  giveAll [] slots = slots
+  giveAll (v ∷ vs) slots = giveAll vs (giveSlot v (sizeOf f v) slots)
+
   -- THE PLAN that the tables stand for
   abbrev pub planOf : Tables → Plan
   planOf t =
@@ -72,7 +81,7 @@ module _ (f : Function) where
     pub counted : t .progress .given ≡ length (f .values)
     pub few : length (f .values) ≤ largestValues
     pub row : HasRow (t .asked) 0
-    pub known : (v : ℕ) → v < rowValues → rows (t .asked) 0 v ≡ not (isNone (slotsBy (t .steps) (t .progress .steps) .slotOf v))
+    pub known : Known (t .asked) (t .steps) (t .progress .steps)
     pub roomSteps : t .progress .steps + lack one rowValues (rows (t .asked) 0) + k ≤ length (t .steps)
     pub roomSizes : t .progress .made + 2 * k ≤ length (t .sizes)
     pub small : length (t .sizes) ≤ 2 * largestRecords
@@ -110,3 +119,26 @@ module _ (f : Function) where
     pub state : (planOf f t′, numbers′) ≡ walk g place n (planOf f t, numbers)
     pub kept : Kept f n t t′
     pub long : length numbers′ ≡ length numbers
+
+-- SLOTS FOR A LIST. The members of the rest are still to be asked for, of all.
+pub record Slotting (rest all asked steps : List ℕ) (count : ℕ) (asked′ steps′ : List ℕ) (count′ : ℕ) : Type 0 where
+  pub slots : (f : Function) → Known f asked steps count → giveAll f rest (slotsBy f steps′ count′) ≡ giveAll f all (slotsBy f steps count)
+  pub known : (f : Function) → Known f asked steps count → Known f asked′ steps′ count′
+  pub room : (k : ℕ) → count + lack one rowValues (rows asked 0) + k ≤ length steps → count′ + lack one rowValues (rows asked′ 0) + k ≤ length steps′
+  pub askedLong : length asked′ ≡ length asked
+  pub stepsLong : length steps′ ≡ length steps
+
+-- none are
+abbrev pub Slotted : (all asked steps : List ℕ) → ℕ → (asked′ steps′ : List ℕ) → ℕ → Type 0
+Slotted all = Slotting [] all
+
+-- the spilled values of a row from v on, n of them looked at
+abbrev pub spilledFrom : NumberSet → NumberSet → ℕ → ℕ → List ℕ
+spilledFrom spilled set v n = keep spilled (keep set (upFrom v n))
+
+-- what asking for them reads and writes: rows, and places for the steps
+pub record Rows (spilled set : List ℕ) (row : ℕ) (asked steps : List ℕ) (count : ℕ) : Type 0 where
+  pub inSpilled : HasRow spilled 0
+  pub inSet : HasRow set row
+  pub inAsked : HasRow asked 0
+  pub room : count + lack one rowValues (rows asked 0) + 0 ≤ length steps

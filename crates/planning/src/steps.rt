@@ -18,7 +18,7 @@ use rows::contains;
 use rows::insert;
 
 // A slot for a value, if it has not been asked for: a step is noted. Answers how many steps there are.
-fn ask(v: usize, asked: &mut [u64], steps: &mut [u32], count: usize) -> usize
+pub fn ask(v: usize, asked: &mut [u64], steps: &mut [u32], count: usize) -> usize
     requires { ⌜ HasRow (now asked) 0 × (v < rowValues) × (rows (now asked) 0 v ≡ false → count < length (now steps)) ⌝ }
     ensures { λ r. ⌜ Asked v (now (asked .entry)) (now (steps .entry)) count (now (asked .exit)) (now (steps .exit)) r ⌝ }
 {

@@ -16,7 +16,7 @@ size-of-requires c κs = search needs
 ask-requires : tie.Need-ask-requires
 ask-requires c κs =
     let g = c .before .before .before .before .before .before .before .pre .2 in
-    (g .row, c .before .before .before .before .before .before .before .pre .1, asking-room (functionIn (c .before .before .before .before .before .before .before .args .s .now)) (c .before .before .before .before .before .before .before .args .v) (c .before .before .before .before .before .before .before .pre .1) (c .before .before .before .before .before .before .before .args .asked .now) (c .before .before .before .before .before .before .before .args .steps .now) (c .before .before .before .before .before .before .before .args .p .steps) (g .known) 1 (g .roomSteps))
+    (g .row, c .before .before .before .before .before .before .before .pre .1, asking-room (c .before .before .before .before .before .before .before .args .v) (c .before .before .before .before .before .before .before .pre .1) (c .before .before .before .before .before .before .before .args .asked .now) (c .before .before .before .before .before .before .before .args .steps .now) (c .before .before .before .before .before .before .before .args .p .steps) 1 (g .roomSteps))
 
 mul-sizes : tie.Need-mul-sizes
 mul-sizes c = let room = c .before .before .before .before .before .before .before .before .before .before .before .before .pre .2 .roomSizes in search (needs, room)
