@@ -13,6 +13,7 @@ use Rattle.rules.specs.Tree.{Function}
 use Rattle.rules.specs.Records.{encode, kind, edgeArgument, recordAt, recordCount}
 use Rattle.rules.specs.File.{ofKind, named, functionIn}
 use Rattle.rules.specs.Plan.{Plan, Made, Planning, pure, forEach, planUse, planDefinition, planEdgeUse}
+use Rattle.rules.specs.declared.EdgeArgument.the-variants as passes
 use Rattle.rules.specs.declared.Record.{Record}
 use Rattle.rules.specs.declared.Words.{Words}
 use Rattle.lists.specs.Tests.{T-ext, eqb-swap}
@@ -101,7 +102,26 @@ module _ (s : List ℕ) (pointer k : ℕ) where
       go true = refl
       go false = refl
 
-  -- the definitions: parameters and results
+  -- edge arguments, of which only values are used,
+  edge-use-step : k ≡ 8 → (place : ℕ) (p : Plan) → useAt s pointer k place p ≡ stepOver k (λ w. planEdgeUse f pointer (argument w)) (recordAt s place) p
+  unfolding operandAt
+  edge-use-step eight place p = rw eight (go (eqb (kind (recordAt s place)) 8) (eqb (w .second) 0) (eqb (w .second) 1))
+    where
+      w : Words
+      w = encode (recordAt s place)
+
+      go :
+          (b c d : Bool)
+          → useBy s pointer (cond b (cond c (operand.Value (w .third)) operand.Nothing) operand.Nothing) p
+          ≡ cond b
+          (planEdgeUse f pointer (cond c (passes.Value (w .third)) (cond d (passes.Returned (w .third)) (passes.Exception (w .third)))))
+          (pure none) p
+      go true true d = refl
+      go true false true = refl
+      go true false false = refl
+      go false c d = refl
+
+  -- and the definitions: parameters and results
   define-step : k ≢ 8 → (place : ℕ) (p : Plan) → defineAt s pointer k place p ≡ stepOver k (λ w. planDefinition f pointer (w .second)) (recordAt s place) p
   unfolding operandAt
   define-step other place p = rw (ne-eqb k 8 other) (go (eqb (kind (recordAt s place)) k))
@@ -123,12 +143,12 @@ module _ (s : List ℕ) (pointer k : ℕ) where
       pub noted : numbers′ ≡ marks (places (eqb k) start (between s start end)) (m (planOf f t) .0) numbers
 
     beside :
-        (h : ℕ → Planning Made) (g : ℕ → Planning Made)
-        → ((place : ℕ) (p : Plan) → g place p ≡ stepOver k (λ w. h (w .second)) (recordAt s place) p)
-        → Walked f g start (end - start) t numbers t′ numbers′ → Beside (forEach h (named k (between s start end)))
-    beside h g is walked =
-        let all = walked .state ∙ walk-between k (λ w. h (w .second)) s g is start end up inFile (planOf f t, numbers) in
-        let same = forEach-map h (λ (w : Words). w .second) (ofKind k (between s start end)) (planOf f t) in
+        {A : Type 0} (pick : Words → A) (h : A → Planning Made) (g : ℕ → Planning Made)
+        → ((place : ℕ) (p : Plan) → g place p ≡ stepOver k (λ w. h (pick w)) (recordAt s place) p)
+        → Walked f g start (end - start) t numbers t′ numbers′ → Beside (forEach h (map pick (ofKind k (between s start end))))
+    beside pick h g is walked =
+        let all = walked .state ∙ walk-between k (λ w. h (pick w)) s g is start end up inFile (planOf f t, numbers) in
+        let same = forEach-map h pick (ofKind k (between s start end)) (planOf f t) in
         record {
           state = ap (λ (x : Plan × List ℕ). x .0) all ∙ ap (λ (y : List Made × Plan). y .1) (sym same);
           noted =
@@ -137,7 +157,10 @@ module _ (s : List ℕ) (pointer k : ℕ) where
         }
 
     pub uses-beside : k ≢ 8 → Walked f (useAt s pointer k) start (end - start) t numbers t′ numbers′ → Beside (forEach (planUse f pointer) (named k (between s start end)))
-    uses-beside other walked = beside (planUse f pointer) (useAt s pointer k) (use-step other) walked
+    uses-beside other walked = beside (λ w. w .second) (planUse f pointer) (useAt s pointer k) (use-step other) walked
+
+    pub edge-uses-beside : k ≡ 8 → Walked f (useAt s pointer k) start (end - start) t numbers t′ numbers′ → Beside (forEach (planEdgeUse f pointer) (map argument (ofKind k (between s start end))))
+    edge-uses-beside eight walked = beside argument (planEdgeUse f pointer) (useAt s pointer k) (edge-use-step eight) walked
 
     pub definitions-beside : k ≢ 8 → Walked f (defineAt s pointer k) start (end - start) t numbers t′ numbers′ → Beside (forEach (planDefinition f pointer) (named k (between s start end)))
-    definitions-beside other walked = beside (planDefinition f pointer) (defineAt s pointer k) (define-step other) walked
+    definitions-beside other walked = beside (λ w. w .second) (planDefinition f pointer) (defineAt s pointer k) (define-step other) walked
