@@ -1,0 +1,5 @@
+pub mod Asking
+pub mod Naming
+pub mod Storing
+pub mod OneRecord
+pub mod Slotting

@@ -1,0 +1,5 @@
+pub mod Standing
+pub mod Operands
+pub mod Walking
+pub mod Marks
+pub mod SlotsGiven

@@ -1,0 +1,54 @@
+// Slots for the spilled values of a row, ascending: those in a block's live-out, and those on a safepoint's list.
+ghost use mathlib.Core.Path.{_≡_};
+ghost use Prim.Native.Nat.{_+_, _<_, _≤_};
+ghost use lib.ListN.{length};
+ghost use Rattle.rules.specs.Lists.{keep, members};
+ghost use Rattle.lists.specs.Lack.{lack, one};
+ghost use Rattle.rows.specs.Rows.{rows, rowValues, HasRow};
+ghost use Rattle.planning.specs.Standing.{Slotted, spilledFrom, Rows};
+use crate::steps::ask;
+use rows::contains;
+
+// A slot for a value, if it is spilled and in the row.
+fn ask_spilled(
+    spilled: &[u64],
+    set: &[u64],
+    row: usize,
+    v: usize,
+    asked: &mut [u64],
+    steps: &mut [u32],
+    count: usize,
+) -> usize
+    requires { ⌜ Rows (now spilled) (now set) row (now asked) (now steps) count × (v < rowValues) ⌝ }
+    ensures { λ r. ⌜ Slotted (spilledFrom (rows (now (spilled .entry)) 0) (rows (now (set .entry)) row) v 1) (now (asked .entry)) (now (steps .entry)) count (now (asked .exit)) (now (steps .exit)) r ⌝ }
+{
+    if !contains(set, row, v) {
+        return count;
+    }
+    if !contains(spilled, 0, v) {
+        return count;
+    }
+    ask(v, asked, steps, count)
+}
+
+// A slot for each of the file's values that is.
+pub fn ask_all(
+    spilled: &[u64],
+    set: &[u64],
+    row: usize,
+    values: usize,
+    asked: &mut [u64],
+    steps: &mut [u32],
+    count: usize,
+) -> usize
+    requires { ⌜ Rows (now spilled) (now set) row (now asked) (now steps) count × (values ≤ rowValues) ⌝ }
+    ensures { λ r. ⌜ Slotted (keep (rows (now (spilled .entry)) 0) (members values (rows (now (set .entry)) row))) (now (asked .entry)) (now (steps .entry)) count (now (asked .exit)) (now (steps .exit)) r ⌝ }
+{
+    let mut found = count;
+    let mut v: usize = 0;
+    while v < values {
+        found = ask_spilled(spilled, set, row, v, asked, steps, found);
+        v += 1;
+    }
+    found
+}
