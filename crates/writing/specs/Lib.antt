@@ -1,0 +1,7 @@
+pub mod Wrote
+pub mod Places
+pub mod Parts
+pub mod Next
+pub mod Zips
+pub mod ByPlace
+pub mod Edges
