@@ -12,7 +12,7 @@ use Rattle.rules.specs.declared.Words.{Words}
 use Rattle.numbering.specs.Beside.{made}
 use Rattle.writing.specs.declared.parts.Part.{Part}
 use Rattle.writing.specs.Parts.{slotIn, partIf, partAt}
-use Rattle.writing.specs.Wrote.{room, length-rest}
+use Rattle.writing.specs.Wrote.{room, Wrote, length-rest}
 
 -- what is found for the words read at a place is what the part has there
 pub part-here :
@@ -25,3 +25,9 @@ part-here s numbers slots k a i rs w r found words read =
 -- the rest that is lent has room for records that fit behind what is written
 pub lent-room : (x : List ℕ) (at : ℕ) (rs ts : List Record) → rs ≡ ts → at + room ts ≤ length x → room rs ≤ length (take (length x - at) (drop at x))
 lent-room x at rs ts e h = omega (arith, h, ap length e, length-rest x at)
+
+-- what a writer left has room for records that fit behind what it wrote
+pub lent-after :
+    {e : List ℕ} {b : List Record} {r : ℕ} {x : List ℕ} → Wrote e b r x → (rs : List Record) → r + room rs ≤ length e
+    → room rs ≤ length (take (length x - r) (drop r x))
+lent-after {r = r} {x = x} w rs h = omega (arith, h, w .long, length-rest x r)

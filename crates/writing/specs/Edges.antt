@@ -206,16 +206,21 @@ module _ (s numbers slots : List ℕ) where
 
   -- a landing as it is written, one part behind the other
   pub landing-joined :
-      (number p q : ℕ)
+      (number p q target : ℕ) → target ≡ encode (recordAt s p) .second
       → ((((record′.Block false number ∷ []) ++ passing part.LandingParameter p q) ++ passing part.PassedLoad p q) ++ (record′.Jump ∷ []))
-      ++ edgeAnd (encode (recordAt s p) .second) part.Landed (p + 1) q
+      ++ edgeAnd target part.Landed (p + 1) q
       ≡ landingAnd number p q
   unfolding landingAnd
-  landing-joined number p q =
+  landing-joined number p q target e =
       append-assoc (((record′.Block false number ∷ []) ++ passing part.LandingParameter p q) ++ passing part.PassedLoad p q) (record′.Jump ∷ [])
-      (edgeAnd (encode (recordAt s p) .second) part.Landed (p + 1) q)
+      (edgeAnd target part.Landed (p + 1) q)
       ∙ append-assoc ((record′.Block false number ∷ []) ++ passing part.LandingParameter p q) (passing part.PassedLoad p q)
-      (record′.Jump ∷ edgeAnd (encode (recordAt s p) .second) part.Landed (p + 1) q)
+      (record′.Jump ∷ edgeAnd target part.Landed (p + 1) q)
+      ∙ ap
+      (λ (x : ℕ).
+      record′.Block false number
+      ∷ (passing part.LandingParameter p q ++ (passing part.PassedLoad p q ++ (record′.Jump ∷ edgeAnd x part.Landed (p + 1) q))))
+      e
 
   pub length-landing :
       (number p q : ℕ)
