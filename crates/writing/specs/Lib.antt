@@ -5,3 +5,4 @@ pub mod Next
 pub mod Zips
 pub mod ByPlace
 pub mod Edges
+pub mod Instructions
