@@ -84,7 +84,8 @@ fn fits_slot(a: u32, b: u32) -> bool
     }
 }
 
-fn edge_argument(a: u32, b: u32) -> EdgeArgument
+// An edge argument by its words 2 and 3.
+pub fn edge_argument(a: u32, b: u32) -> EdgeArgument
     ensures { λ r. ⌜ r ≡ edgeArgument a b ⌝ }
 {
     match a {

@@ -12,8 +12,8 @@ use Rattle.rules.specs.declared.ListAnswer.{ListAnswer}
 abbrev pub CheckAllows : List ℕ → Verdict → Type 0
 CheckAllows s v = v ≡ firstOf (fileRefusals s)
 
-pub check-outcomes-equal : {s : List ℕ} {v w : Verdict} → CheckAllows s v → CheckAllows s w → v ≡ w
-check-outcomes-equal a b = a ∙ sym b
+pub check-outcomes-equal : (s : List ℕ) {v w : Verdict} → CheckAllows s v → CheckAllows s w → v ≡ w
+check-outcomes-equal s a b = a ∙ sym b
 
 -- what `liveness` may leave of a file and two lent tables
 pub record LivenessAllows (s : List ℕ) (n m : ℕ) (answer : LivenessAnswer) (ins outs : List ℕ) : Type 0 where
