@@ -1,9 +1,29 @@
 //! The library written in Rattle, called through its static archive. Only with the feature `library`.
 
+use crate::services::{ListAnswer, LivenessAnswer, LivenessServices};
+
 /// The functions of the archive. A slice is passed as its address and its length.
 mod archive {
     unsafe extern "C" {
         pub fn threshskiff_check(file: *const u8, length: usize) -> u32;
+        pub fn threshskiff_liveness(
+            file: *const u8,
+            length: usize,
+            live_in: *mut u64,
+            live_in_words: usize,
+            live_out: *mut u64,
+            live_out_words: usize,
+            visits: &mut u32,
+            pushes: &mut u32,
+        ) -> u32;
+        pub fn threshskiff_list(
+            file: *const u8,
+            length: usize,
+            instruction: u32,
+            numbers: *mut u32,
+            numbers_length: usize,
+            count: &mut u32,
+        ) -> u32;
     }
 }
 
@@ -12,4 +32,36 @@ pub fn check(file: &[u8]) -> u32 {
     // SAFETY: the address and the length are those of a slice that lives through the call, and the function is proved to
     // read nothing else.
     unsafe { archive::threshskiff_check(file.as_ptr(), file.len()) }
+}
+
+/// The services as the library gives them.
+pub struct Library;
+
+impl LivenessServices for Library {
+    fn liveness(&mut self, file: &[u8], live_in: &mut [u64], live_out: &mut [u64]) -> LivenessAnswer {
+        let (mut visits, mut pushes) = (u32::MAX, u32::MAX);
+        // SAFETY: as above; the two tables are lent for the call alone and do not overlap.
+        let refusal = unsafe {
+            archive::threshskiff_liveness(
+                file.as_ptr(),
+                file.len(),
+                live_in.as_mut_ptr(),
+                live_in.len(),
+                live_out.as_mut_ptr(),
+                live_out.len(),
+                &mut visits,
+                &mut pushes,
+            )
+        };
+        LivenessAnswer { refusal, visits: visits.into(), pushes: pushes.into() }
+    }
+
+    fn list(&mut self, file: &[u8], instruction: u32, list: &mut [u32]) -> ListAnswer {
+        let mut count = u32::MAX;
+        // SAFETY: as above.
+        let refusal = unsafe {
+            archive::threshskiff_list(file.as_ptr(), file.len(), instruction, list.as_mut_ptr(), list.len(), &mut count)
+        };
+        ListAnswer { refusal, count: count.into() }
+    }
 }

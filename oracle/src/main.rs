@@ -14,8 +14,9 @@ const USAGE: &str = "\
 oracle compare [--files N] [--seed S]   the source module against the plain decision on N generated files
 oracle sheets                           both on document 01's sheets P1 to P11
 oracle fixed --write | --check          makes the fixed list, or makes it again, compares and replays it
-oracle library [--files N] [--seed S]   the library written in Rattle: replays the fixed list's refusals, and compares its
-                                        checks with the plain decision's on N generated files (feature `library`)";
+oracle library [--files N] [--seed S]   the library written in Rattle: replays what the fixed list has of its services, and
+                                        compares their whole answers with the plain decision's on N generated files
+                                        (feature `library`)";
 
 /// Where the list stands, from the package's folder or from the repository's.
 const LISTS: [&str; 2] = ["fixed/answers.txt", "oracle/fixed/answers.txt"];
@@ -82,7 +83,9 @@ fn compare(options: &[&str]) -> Result<(), String> {
 
 #[cfg(feature = "library")]
 fn library(options: &[&str]) -> Result<(), String> {
-    use oracle::{compare::refusals_batch, fixed::replay_refusals, library::check};
+    use oracle::compare::{live_batch, refusals_batch};
+    use oracle::fixed::{replay_live, replay_refusals};
+    use oracle::library::{Library, check};
     let path = list_path()?;
     let list = fs::read_to_string(path).map_err(|error| format!("{path}: {error}"))?;
     let (refused, let_pass) = replay_refusals(&list, check)?;
@@ -100,8 +103,15 @@ fn library(options: &[&str]) -> Result<(), String> {
         );
     }
     println!("the library's checks on {files} files of seed {seed}, {seconds:.1} s with the decision's");
-    met.differences.iter().take(20).for_each(|difference| println!("{difference}"));
-    match met.differences.len() {
+    let (tables, lists) = replay_live(&list, &mut Library)?;
+    println!("{path}: {tables} lines of liveness and {lists} of lists, replayed");
+    let start = Instant::now();
+    let mut differences = met.differences;
+    differences.extend(live_batch(&mut Library, seed, files));
+    let seconds = start.elapsed().as_secs_f64();
+    println!("the library's liveness and lists on {files} files of seed {seed}, {seconds:.1} s with the decision's");
+    differences.iter().take(20).for_each(|difference| println!("{difference}"));
+    match differences.len() {
         0 => Ok(()),
         count => Err(format!("{count} differences")),
     }
