@@ -1,4 +1,4 @@
-//! The oracle's commands: compare, sheets, fixed.
+//! The oracle's commands: compare, sheets, fixed, library.
 
 use oracle::compare::{Met, against_module, batch};
 use oracle::decision::Decision;
