@@ -19,7 +19,7 @@ use rows::remove;
 use rules::EdgeArgument;
 use rules::Record;
 
-// A record defines a value, uses one, or does neither. A context does not count: refusal 8 lets no marked one live.
+// A record defines a value, uses one, or does neither. A context is no use: the rule adds arguments and edge arguments only.
 pub enum Operand {
     Defined(u32),
     Used(u32),

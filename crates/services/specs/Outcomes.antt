@@ -1,12 +1,17 @@
 -- Any two outcomes that a service's contract allows are equal: its answer and every lent buffer, to its end.
 use Prim.Native.Nat.{ℕ}
-use mathlib.Core.Path.{_≡_, sym, _∙_}
+use mathlib.Core.Path.{_≡_, sym, ap, _∙_}
+use mathlib.Core.Bool.{false, not, _&&_}
 use mathlib.Core.List.{List}
+use lib.Dec.{T}
+use Rattle.rules.specs.File.{functionIn}
 use Rattle.rules.specs.Refusals.{firstOf, fileRefusals}
 use Rattle.rules.specs.Services.{livenessAnswer, livenessIns, livenessOuts, listAnswer, listWords}
+use Rattle.rules.specs.Services.{isAccepted, isUnchanged, rewritingVerdict, rewritingAnswer}
 use Rattle.rules.specs.declared.Verdict.{Verdict}
 use Rattle.rules.specs.declared.LivenessAnswer.{LivenessAnswer}
 use Rattle.rules.specs.declared.ListAnswer.{ListAnswer}
+use Rattle.lists.specs.Tests.{is-false}
 
 -- what `check_file` may answer of a file
 abbrev pub CheckAllows : List ℕ → Verdict → Type 0
@@ -35,3 +40,10 @@ pub list-outcomes-equal :
     {s : List ℕ} {i n : ℕ} {a b : ListAnswer} {numbers numbers′ : List ℕ}
     → ListAllows s i n a numbers → ListAllows s i n b numbers′ → (a ≡ b) × (numbers ≡ numbers′)
 list-outcomes-equal x y = (x .answers ∙ sym (y .answers), x .words ∙ sym (y .words))
+
+-- A refusal of rewriting is not "unchanged".
+pub refused-not-unchanged :
+    (s : List ℕ) (pointer n : ℕ) → T (not (isAccepted (rewritingVerdict s pointer n))) → rewritingAnswer s pointer n .unchanged ≡ false
+unfolding rewritingAnswer
+refused-not-unchanged s pointer n refused =
+    ap (λ b. b && isUnchanged (functionIn s)) (is-false (isAccepted (rewritingVerdict s pointer n)) refused)
