@@ -19,7 +19,8 @@ use Rattle.lists.specs.Lack.{lack, one, lack-drop}
 use Rattle.sharing.specs.SlotSteps.{SlotStep, gives, frees, taken, replayed, replayed-append}
 use Rattle.rows.specs.Rows.{rows, rowValues}
 use Rattle.rules.specs.Plan.{Plan, planLoad}
-use Rattle.planning.specs.Standing.{stepOf, noted, unmarked, newValues, Tables, tables, Asked, slotsBy, Known, Good, Ran}
+use Rattle.numbering.specs.NewValues.{unmarked, newValues}
+use Rattle.planning.specs.Standing.{stepOf, noted, Tables, tables, Asked, slotsBy, Known, Good, Ran}
 use Rattle.planning.specs.declared.Progress.{Progress}
 
 pub give-number : (v : ℕ) → stepOf (2 * v) ≡ gives v

@@ -16,7 +16,8 @@ use Rattle.rules.specs.Slots.{StackSlots, freeSlot}
 use Rattle.rules.specs.Plan.{Plan, Made, planDefinition, planStore}
 use Rattle.sharing.specs.SlotSteps.{SlotStep, frees, freeOwn, taken}
 use Rattle.rows.specs.Rows.{rows, rowValues}
-use Rattle.planning.specs.Standing.{unmarked, newValues, Tables, tables, slotsBy, planOf, Good, Ran}
+use Rattle.numbering.specs.NewValues.{unmarked, newValues}
+use Rattle.planning.specs.Standing.{Tables, tables, slotsBy, planOf, Good, Ran}
 use Rattle.planning.specs.declared.Progress.{Progress}
 use Rattle.planning.proofs.Asking.{free-number, newValues-more, slots-more, plan-same}
 

@@ -9,13 +9,14 @@ use lib.ListN.{length, getD, set, take}
 use lib.Dec.{eqb}
 use Rattle.rules.specs.Limits.{largestRecords, largestValues}
 use Rattle.rules.specs.Lists.{keep, isNone, upFrom, update, NumberSet, adding}
-use Rattle.rules.specs.Tree.{Value, Function}
+use Rattle.rules.specs.Tree.{Function}
 use Rattle.rules.specs.Graph.{sizeOf}
 use Rattle.rules.specs.Slots.{StackSlots, noSlots, giveSlot}
 use Rattle.rules.specs.Plan.{Plan, Made, Planning}
 use Rattle.lists.specs.Lack.{lack, one}
 use Rattle.sharing.specs.SlotSteps.{SlotStep, gives, frees, replayed}
 use Rattle.rows.specs.Rows.{rows, rowValues, HasRow}
+use Rattle.numbering.specs.NewValues.{newValues}
 use Rattle.planning.specs.declared.Progress.{Progress}
 
 -- A step as a number: value v is given a slot as 2 v, its slot is freed as 2 v + 1.
@@ -25,14 +26,6 @@ stepOf n = cond (eqb (n % 2) 0) (gives (n / 2)) (frees (n / 2))
 -- the first n of a table of such numbers
 unfoldable pub noted : List ℕ → ℕ → List SlotStep
 noted steps n = map stepOf (take n steps)
-
--- a new value of a size
-abbrev pub unmarked : ℕ → Value
-unmarked size = record { size = size; marked = false }
-
--- the first n new values, by a table of their sizes
-unfoldable pub newValues : List ℕ → ℕ → List Value
-newValues sizes n = map unmarked (take n sizes)
 
 -- the row of values asked for, the steps, and the sizes of new values
 pub record Tables : Type 0 where

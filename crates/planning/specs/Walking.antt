@@ -8,7 +8,8 @@ use lib.ListN.{length, take, set, length-append, length-map, length-set}
 use lib.Seq.{length-take-le}
 use Rattle.rules.specs.Tree.{Value, Function}
 use Rattle.rules.specs.Plan.{Plan, Made, Planning}
-use Rattle.planning.specs.Standing.{unmarked, newValues, Tables, tables, planOf, Good, Kept, Ran, mark, stepAt, walk, Walked}
+use Rattle.numbering.specs.NewValues.{unmarked, newValues}
+use Rattle.planning.specs.Standing.{Tables, tables, planOf, Good, Kept, Ran, mark, stepAt, walk, Walked}
 
 module _ (f : Function) where
   -- room for more records is room for fewer
