@@ -60,7 +60,7 @@ module _ (f : Function) where
   nones-length [] = refl
   nones-length (i ∷ is) = ap suc (nones-length is)
 
-  lists-length : (b : ℕ) → length (listsOf f b) ≡ length (instructionsOf (blockAt f b))
+  pub lists-length : (b : ℕ) → length (listsOf f b) ≡ length (instructionsOf (blockAt f b))
   unfolding listsOf
   lists-length b =
       let is = instructionsOf (blockAt f b) in

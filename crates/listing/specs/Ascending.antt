@@ -11,13 +11,28 @@ use Rattle.rules.specs.Tree.{Block, Function}
 use Rattle.rules.specs.Graph.{blockAt, instructionsOf}
 use Rattle.rules.specs.Liveness.{lists}
 use Rattle.rules.specs.Refusals.{allInstructions}
-use Rattle.rows.specs.Rows.{rowValues, keep-below}
+use Rattle.fixpoint.specs.Sums.{count-le-length, length-keep}
+use Rattle.rows.specs.Rows.{rowValues, size, keep-below}
 use Rattle.listing.specs.Crossings.{crossings, listed, length-crossings}
 use Rattle.listing.specs.Listed.{length-lists, list-members, listed-far}
 
 -- the values that a row has bits for, ascending
 unfoldable pub ascending : NumberSet → List ℕ
 ascending set = members rowValues set
+
+-- There are as many as the row's count says, and no more than a row has bits for.
+pub size-ascending : (set : NumberSet) → size set ≡ length (ascending set)
+unfolding size ascending
+size-ascending set = refl
+
+length-upFrom : (n k : ℕ) → length (upFrom n k) ≡ k
+length-upFrom n zero = refl
+length-upFrom n (suc k) = ap suc (length-upFrom (suc n) k)
+
+pub ascending-small : (set : NumberSet) → length (ascending set) ≤ rowValues
+unfolding ascending
+ascending-small set =
+    omega (arith, length-keep set (upFrom 0 rowValues), count-le-length set (upFrom 0 rowValues), length-upFrom 0 rowValues)
 
 -- They are those below n, where the set has no value from n on.
 pub ascending-members :

@@ -1,5 +1,5 @@
 -- The whole answer of the list of one safepoint, as its functions come to it.
-use Prim.Native.Nat.{ℕ, zero, suc, _<_, _≤_, _*_}
+use Prim.Native.Nat.{ℕ, _<_, _≤_, _*_}
 use mathlib.Core.Path.{_≡_, refl, sym, ap, subst, _∙_}
 use mathlib.Core.Bool.{Bool, true, false, not, _||_}
 use mathlib.Core.Option.{Option, none, some}
@@ -10,7 +10,7 @@ use lib.Seq.{sets}
 use lib.Dec.{T, eqb, ltb, ltb→lt, nltb→le}
 use borrow.Author.Tests.{lt-ltb, le-ltb}
 use Rattle.rules.specs.Limits.{largestInstructions, tableWords, rowWords}
-use Rattle.rules.specs.Lists.{all, keep, upFrom, isNone, orElse, NumberSet, padded}
+use Rattle.rules.specs.Lists.{all, isNone, orElse, NumberSet, padded}
 use Rattle.rules.specs.Tree.{Function}
 use Rattle.rules.specs.File.{functionIn}
 use Rattle.rules.specs.Liveness.{process, lists}
@@ -24,7 +24,7 @@ use Rattle.graph.specs.Few.{values-few, blocks-few, instructions-few}
 use Rattle.graph.specs.Room.{blank-zeros}
 use Rattle.graph.specs.Tables.{indexTable, length-indexTable}
 use Rattle.graph.specs.Zeros.{Zeros, sets-padded}
-use Rattle.rows.specs.Rows.{rows, rowValues, size}
+use Rattle.rows.specs.Rows.{rows}
 use Rattle.listing.specs.Ascending.{ascending, list-ascending, length-lists-instructions}
 use Rattle.listing.specs.Crossings.{listed}
 use Rattle.listing.specs.Tables.{IndexTables, ListTables}
@@ -33,27 +33,6 @@ use Rattle.acceptance.specs.Survey.{SurveyTables, BlankTables, Surveyed, accept
 use Rattle.acceptance.specs.declared.survey.BlockCounts.{BlockCounts}
 use Rattle.services.specs.Live.{Lent, Indexed}
 use Rattle.services.specs.ListRow.{rowAnswer, rowNumbers}
-
--- A ROW'S VALUES: as many as the row's count says, and no more than it has bits for.
-pub size-ascending : (set : NumberSet) → size set ≡ length (ascending set)
-unfolding size ascending
-size-ascending set = refl
-
-keep-le : (p : ℕ → Bool) (xs : List ℕ) → length (keep p xs) ≤ length xs
-keep-le p [] = omega arith
-keep-le p (x ∷ xs) = go (p x) (keep-le p xs)
-  where
-    go : (b : Bool) → length (keep p xs) ≤ length xs → length {A = ℕ} (elim b [ true ↦ x ∷ keep p xs | false ↦ keep p xs ]) ≤ suc (length xs)
-    go true h = omega arith
-    go false h = omega arith
-
-length-upFrom : (n k : ℕ) → length (upFrom n k) ≡ k
-length-upFrom n zero = refl
-length-upFrom n (suc k) = ap suc (length-upFrom (suc n) k)
-
-pub ascending-small : (set : NumberSet) → length (ascending set) ≤ rowValues
-unfolding ascending
-ascending-small set = omega (arith, keep-le set (upFrom 0 rowValues), length-upFrom 0 rowValues)
 
 -- THE ROW'S ANSWER: too short, or its values
 module _ (set : NumberSet) (n : ℕ) where

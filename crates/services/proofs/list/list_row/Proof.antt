@@ -1,6 +1,7 @@
 -- `services::list::list_row` meets its contract.
 use lib.ListN.{length}
-use Rattle.services.proofs.ListAnswers.{size-ascending, ascending-small, row-short, row-fits}
+use Rattle.services.proofs.ListAnswers.{row-short, row-fits}
+use Rattle.listing.specs.Ascending.{size-ascending, ascending-small}
 use Rattle.rows.specs.Rows.{rows}
 use native.Mathlib.Omega.{arith}
 use mathlib.Core.Path.{refl, _∙_}
