@@ -1,3 +1,4 @@
+pub mod Finals
 pub mod Live
 pub mod ListRow
 pub mod Outcomes

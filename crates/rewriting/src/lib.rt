@@ -1,0 +1,1 @@
+// Rewriting: the answer and the records, over lent tables.
