@@ -1,0 +1,4 @@
+pub mod Lists
+pub mod Changes
+pub mod Turns
+pub mod Loop

@@ -1,0 +1,4 @@
+// The Rust's `StackSlots` and `SlotSizeMap`: which slot each value has, and which slots are free, by class. Planning notes
+// only which value is given a slot and whose slot is freed; here these steps are replayed over lent tables.
+pub mod holders;
+pub mod replaying;
