@@ -21,7 +21,8 @@ use Rattle.slots.specs.declared.SlotSize.{SlotSize}
 use Rattle.rows.specs.Rows.{rowValues}
 use Rattle.numbering.specs.Beside.{made}
 use Rattle.stackslots.specs.Holders.{Holders, holders, valueOf, Freed, Stands, Room}
-use Rattle.stackslots.proofs.Lists.{freed-kept, slots-kept, freed-none, index-less, class-changed}
+use Rattle.stackslots.proofs.Classes.{index-less}
+use Rattle.stackslots.proofs.Lists.{freed-kept, slots-kept, freed-none, class-changed}
 
 module _ {steps : List ℕ} {n : ℕ} {p : StackSlots} {t : Holders} (h : Stands steps n p t) where
   -- a step that changes nothing

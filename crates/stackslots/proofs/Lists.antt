@@ -1,23 +1,19 @@
 -- The free lists: what a change of the tables leaves of one.
-use Prim.Native.Nat.{ℕ, suc, _^_, _<_, _≤_}
+use Prim.Native.Nat.{ℕ, suc, _<_, _≤_}
 use mathlib.Core.Path.{_≡_, refl, sym, ap, subst, _∙_}
 use mathlib.Core.Logic.{_≢_}
-use mathlib.Core.Bool.{Bool, true, false}
 use mathlib.Core.List.{List, [], _∷_}
 use native.Mathlib.Omega.{arith}
 use lib.ListN.{length, getD, set}
 use lib.Seq.{getD-set-same, getD-set-other}
-use lib.Dec.{T}
-use Rattle.rules.specs.Lists.{has, update}
-use Rattle.rules.specs.Records.{slotSizes, log2}
+use Rattle.rules.specs.Lists.{update}
+use Rattle.rules.specs.Records.{log2}
 use Rattle.lists.specs.Tests.{neqb→ne}
 use Rattle.fixpoint.specs.Finding.{update-elim}
-use Rattle.slots.specs.Classes.{classOf, index, bytes, log2-bytes, class-of-bytes, class-of-slot-size}
+use Rattle.slots.specs.Classes.{index, bytes, log2-bytes}
 use Rattle.slots.specs.declared.SlotSize.{SlotSize}
-use Rattle.slots.specs.declared.SlotSize.the-variants as slot
-use Rattle.slots.specs.declared.SizeClass.{SizeClass}
-use Rattle.slots.specs.declared.SizeClass.the-variants as class
 use Rattle.stackslots.specs.Holders.{valueOf, Freed}
+use Rattle.stackslots.proofs.Classes.{index-sizes}
 
 -- A list is kept where the older nodes are, and the slots of values that have one.
 module _
@@ -51,22 +47,7 @@ pub freed-bound : (steps : List ℕ) (n : ℕ) (older tags : List ℕ) (tag : �
 freed-bound steps n older tags tag [] h = omega (arith, h)
 freed-bound steps n older tags tag (x ∷ rest) h = omega (arith, h .1, h .2)
 
--- CLASSES. Classes have different numbers, as they have different sizes.
-class-power : (c : SlotSize) → bytes c ≡ 2 ^ index c
-class-power slot.Size8 = refl
-class-power slot.Size16 = refl
-class-power slot.Size32 = refl
-class-power slot.Size64 = refl
-class-power slot.Size128 = refl
-
-pub index-less : (c : SlotSize) → index c < 5
-index-less slot.Size8 = omega arith
-index-less slot.Size16 = omega arith
-index-less slot.Size32 = omega arith
-index-less slot.Size64 = omega arith
-index-less slot.Size128 = omega arith
-
--- So a change of one class's list changes no other.
+-- CLASSES. A change of one class's list changes no other.
 pub class-changed :
     (steps : List ℕ) (n : ℕ) (older tags heads : List ℕ) (free : ℕ → List ℕ) (c : SlotSize) (tag : ℕ) (l : List ℕ) → index c < length heads
     → Freed steps n older tags tag l
@@ -80,25 +61,5 @@ class-changed steps n older tags heads free c tag l inside new old d =
     (sym (ap (λ i. getD (set heads (index c) tag) i 0) number ∙ getD-set-same heads (index c) tag 0 inside)) new)
     (λ other.
     let number : index d ≢ index c =
-    λ e. neqb→ne (bytes d) (bytes c) other (class-power d ∙ ap (λ i. 2 ^ i) e ∙ sym (class-power c)) in
+    λ e. neqb→ne (bytes d) (bytes c) other (index-sizes d c e) in
     subst (λ k. Freed steps n older tags k (free (bytes d))) (sym (getD-set-other heads (index c) (index d) tag 0 number)) (old d))
-
--- the class that a match finds, where the size is one that a slot can have
-abbrev inClass : SizeClass → SlotSize
-inClass (class.Class c) = c
-inClass class.NoClass = slot.Size8
-
-abbrev isClass : SizeClass → Bool
-isClass (class.Class c) = true
-isClass class.NoClass = false
-
-pub class-found : (size : ℕ) → T (has size slotSizes) → (c : SlotSize) → classOf size ≡ class.Class c → index c ≡ log2 size
-class-found size fits c e =
-    let own = class-of-slot-size size fits in
-    let same : own .0 ≡ c = ap inClass (sym (class-of-bytes (own .0)) ∙ ap classOf (own .1) ∙ e) in
-    sym (log2-bytes c) ∙ ap log2 (ap bytes (sym same) ∙ own .1)
-
-pub class-missing : (size : ℕ) → T (has size slotSizes) → classOf size ≡ class.NoClass → ⊥
-class-missing size fits e =
-    let own = class-of-slot-size size fits in
-    subst T (ap isClass (sym (class-of-bytes (own .0)) ∙ ap classOf (own .1) ∙ e)) tt

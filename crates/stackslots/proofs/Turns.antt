@@ -18,12 +18,13 @@ use Rattle.lists.specs.Members.{here}
 use Rattle.lists.specs.Maps.{map-append}
 use Rattle.sharing.specs.SlotSteps.{SlotStep, gives, frees, freeOwn, taken, replayed, replayed-append}
 use Rattle.sharing.specs.Holding.{HasSlot, replayed-keeps, replayed-has}
-use Rattle.slots.specs.Classes.{index, bytes, log2-bytes, class-of-slot-size}
+use Rattle.slots.specs.Classes.{index, bytes}
 use Rattle.slots.specs.declared.SlotSize.{SlotSize}
 use Rattle.rows.specs.Rows.{rowValues}
 use Rattle.planning.specs.Standing.{stepOf, noted, slotsBy}
 use Rattle.stackslots.specs.Holders.{Holders, holders, valueOf, SameLong, slotsAfter, Turn, Turned}
-use Rattle.stackslots.proofs.Lists.{freed-bound, index-less}
+use Rattle.stackslots.proofs.Classes.{index-less, class-number}
+use Rattle.stackslots.proofs.Lists.{freed-bound}
 use Rattle.stackslots.proofs.Changes.{stands-on, tag-none, tag-some, given-again, one-left, stands-made, stands-taken, stands-freed}
 
 -- one step more is replayed
@@ -42,11 +43,6 @@ slots-next f steps i l =
 -- a number that is no tag of none
 pub tag-of-slot : (n : ℕ) → 0 < n → n ≡ suc (n - 1)
 tag-of-slot n l = omega arith
-
--- a size that a slot can have has a class, whose number is its logarithm
-class-number : (size : ℕ) → T (has size slotSizes) → (class : ℕ) → class ≡ log2 size → (c : SlotSize) × (bytes c ≡ size) × (class ≡ index c)
-class-number size fits class e =
-    let own = class-of-slot-size size fits in (own .0, own .1, e ∙ ap log2 (sym (own .1)) ∙ log2-bytes (own .0))
 
 module _ (s steps : List ℕ) (i : ℕ) (t : Holders) (h : Turn s steps i t) where
   abbrev f : Function

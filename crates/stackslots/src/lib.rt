@@ -2,3 +2,4 @@
 // only which value is given a slot and whose slot is freed; here these steps are replayed over lent tables.
 pub mod holders;
 pub mod replaying;
+pub mod sizes;

@@ -1,6 +1,6 @@
 -- `stackslots::holders::class_of` meets its contract.
 use mathlib.Core.Path.{sym, _∙_}
-use Rattle.stackslots.proofs.Lists.{class-found, class-missing}
+use Rattle.stackslots.proofs.Classes.{class-found, class-missing}
 use borrow.Author.Needs.{needs}
 use Rattle.stackslots.proofs.holders.class_of.Statement.{statement}
 use Rattle.stackslots.proofs.holders.class_of.Tie as tie
