@@ -40,8 +40,8 @@ slots-next f steps i l =
     ap (λ (ss : List SlotStep). replayed (sizeOf f) ss noSlots) (noted-next steps i l)
     ∙ replayed-append (sizeOf f) (noted steps i) (stepOf (getD steps i 0) ∷ []) noSlots
 
--- a number that is no tag of none
-pub tag-of-slot : (n : ℕ) → 0 < n → n ≡ suc (n - 1)
+-- a tag that is not 0 is a slot's
+tag-of-slot : (n : ℕ) → 0 < n → n ≡ suc (n - 1)
 tag-of-slot n l = omega arith
 
 module _ (s steps : List ℕ) (i : ℕ) (t : Holders) (h : Turn s steps i t) where

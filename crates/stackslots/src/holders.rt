@@ -11,7 +11,7 @@ ghost use Rattle.stackslots.specs.Holders.{valueOf};
 use slots::SizeClass;
 use slots::SlotSize;
 
-// The number of the class of a slot's size.
+// The number of the class of a slot's size; another size is not asked about.
 pub fn class_of(size: u32) -> usize
     requires { ⌜ T (has size slotSizes) ⌝ }
     ensures { λ r. ⌜ (r ≡ log2 size) × (r < 5) ⌝ }
