@@ -1,0 +1,6 @@
+pub mod Classes
+pub mod Lists
+pub mod Changes
+pub mod Turns
+pub mod Loop
+pub mod Sizing
