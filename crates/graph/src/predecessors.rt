@@ -1,7 +1,7 @@
 // The lists of predecessors, linked through lent tables. A table of blocks has the tag of each list's first entry; a tag is 0
 // for none, and one more than the entry's place.
 ghost use mathlib.Core.Path.{_≡_};
-ghost use Prim.Native.Nat.{_≤_, _<_};
+ghost use Prim.Native.Nat.{_-_, _≤_, _<_};
 ghost use lib.ListN.{length};
 ghost use Rattle.rules.specs.Lists.{foldl};
 ghost use Rattle.rules.specs.Records.{recordCount};
@@ -52,6 +52,14 @@ fn link_block(
     count
 }
 
+// The index that is reached once so many, from the highest down, are done.
+fn from_top(count: usize, done: usize) -> usize
+    requires { ⌜ done < count ⌝ }
+    ensures { λ r. ⌜ (r ≡ count - done - 1) × (r < count) ⌝ }
+{
+    count - done - 1
+}
+
 // The lists of the predecessors of all blocks, once an edge, ascending by index. Answers how many entries are in use. The
 // blocks go from the highest index down, and each entry in front of those before it.
 pub fn link_predecessors(
@@ -67,11 +75,11 @@ pub fn link_predecessors(
     ensures { λ r. ⌜ links (now (first .exit)) (now (from .exit)) (now (next .exit)) r ≡ linked (functionIn (now (s .entry))) (links (now (first .entry)) (now (from .entry)) (now (next .entry)) 0) ⌝ }
 {
     let mut used: usize = 0;
-    let mut i = count;
-    while i > 0 {
-        i -= 1;
-        let p = order[i];
+    let mut done: usize = 0;
+    while done < count {
+        let p = order[from_top(count, done)];
         used = link_block(s, places[p] + 1, places[p + 1], first, from, next, used, p);
+        done += 1;
     }
     used
 }

@@ -1,17 +1,22 @@
 -- `graph::predecessors::link_predecessors` meets its contract.
-use borrow.Author.Needs.{needs}
 use Rattle.graph.proofs.Linking.{Listing, Indexed, indexed, listing-start, listing-more, listing-done}
-use Rattle.graph.specs.Links.{Links, links}
+use Rattle.graph.specs.Links.{Links, links, linkEdge}
 use native.Mathlib.Omega.{arith}
-use Prim.Native.Nat.{_-_}
+use mathlib.Core.Path.{_≡_, sym, ap, subst, _∙_}
+use lib.ListN.{getD}
+use Rattle.rules.specs.Lists.{foldl}
+use Rattle.rules.specs.File.{named}
+use Rattle.graph.specs.Between.{between}
+use Prim.Native.Nat.{ℕ, _+_, _-_}
 use Rattle.graph.proofs.predecessors.link_predecessors.Statement.{statement}
 use Rattle.graph.proofs.predecessors.link_predecessors.Tie as tie
 
 abbrev Inv-loop : tie.InvT-loop
-Inv-loop s places order count first₀ from₀ next₀ used₀ i₀ first from next used i = Listing s (links first₀ from₀ next₀ 0) (links first from next used) i
+Inv-loop s places order count first₀ from₀ next₀ used₀ done₀ first from next used done =
+    Listing s (links first₀ from₀ next₀ 0) (links first from next used) (count - done)
 
 abbrev μ-loop : tie.MeasureT-loop
-μ-loop s places order count first₀ from₀ next₀ used₀ i₀ first from next used i = i
+μ-loop s places order count first₀ from₀ next₀ used₀ done₀ first from next used done = count - done
 
 -- the tables as they were lent
 abbrev lent : tie.Start Inv-loop μ-loop → Links
@@ -25,23 +30,27 @@ abbrev start-of : tie.In-loop Inv-loop μ-loop → tie.Start Inv-loop μ-loop
 start-of c = c .before .before .before .before .before .before .before .before
 
 known :
-    (c : tie.In-loop Inv-loop μ-loop)
-    → Indexed (start-of c .args .s .now) (start-of c .args .places .now) (start-of c .args .order .now) (links-now c) (c .before .loop .i - 1)
+    (c : tie.After-from-top Inv-loop μ-loop)
+    → let a = start-of (c .before) in
+    Indexed (a .args .s .now) (a .args .places .now) (a .args .order .now) (links-now (c .before)) (c .from-top .result)
 known c =
-    let a = start-of c in
-    indexed (a .args .s .now) (a .args .places .now) (a .args .order .now) (a .args .count) (a .pre .0) (lent a) (links-now c) (a .pre .1) (c .before .loop .i)
-    (c .before .loop .inv) (c .loop-test .taken)
+    let a = start-of (c .before) in
+    subst (Indexed (a .args .s .now) (a .args .places .now) (a .args .order .now) (links-now (c .before))) (sym (c .from-top .ensures .0))
+    (indexed (a .args .s .now) (a .args .places .now) (a .args .order .now) (a .args .count) (a .pre .0) (lent a) (links-now (c .before)) (a .pre .1)
+    (a .args .count - c .before .before .loop .done) (c .before .before .loop .inv) (omega (arith, c .before .loop-test .taken)))
 
 loop-holds : tie.Need-loop-holds Inv-loop μ-loop
 loop-holds c =
     let start = c .before .before .before .before .before .before in
-    listing-start (start .args .s .now) (start .args .places .now) (start .args .order .now) (start .args .count) (start .pre .0) (start .args .first .now) (start .args .from .now) (start .args .next .now) (start .pre .1)
+    let all : start .args .count ≡ start .args .count - 0 = omega arith in
+    subst (Listing (start .args .s .now) (lent start) (lent start)) all
+    (listing-start (start .args .s .now) (start .args .places .now) (start .args .order .now) (start .args .count) (start .pre .0) (start .args .first .now) (start .args .from .now) (start .args .next .now) (start .pre .1))
 
-sub-i : tie.Need-sub-i Inv-loop μ-loop
-sub-i c = search needs
+from-top-requires : tie.Need-from-top-requires Inv-loop μ-loop
+from-top-requires c κs = c .loop-test .taken
 
 mul-p : tie.Need-mul-p Inv-loop μ-loop
-mul-p c = omega (arith, known (c))
+mul-p c = omega (arith, known c)
 
 shared-slice-read-p : tie.Need-shared-slice-read-p Inv-loop μ-loop
 shared-slice-read-p c = known (c .before) .below
@@ -69,20 +78,32 @@ link-block-requires c κs =
     let inside = c .before .before .before .before .before .before in
     (known inside .starts, known inside .ends, known inside .linkable)
 
+add-done : tie.Need-add-done Inv-loop μ-loop
+add-done c = omega (arith, c .before .before .before .before .before .before .before .before .before .before .before .before .before .before .loop-test .taken)
+
 loop-less : tie.Need-loop-less Inv-loop μ-loop
-loop-less c = omega arith
+loop-less c = omega (arith, c .before .before .before .before .before .before .before .before .before .before .before .before .before .before .loop-test .taken)
 
 loop-again : tie.Need-loop-again Inv-loop μ-loop
 loop-again c =
-    let start = c .before .before .before .before .before .before .before .before .before .before .before .before .before .before .before .before .before .before .before .before .before in
-    let loop = c .before .before .before .before .before .before .before .before .before .before .before .before .before .before .loop in
-    let inside = c .before .before .before .before .before .before .before .before .before .before .before .before .before in
-    let test = c .before .before .before .before .before .before .before .before .before .before .before .before .before .loop-test in
-    let link-block = c .before .before .before .before .before .before .link-block in
+    let inside = c .before .before .before .before .before .before .before .before .before .before .before .before .before .before in
+    let start = start-of inside in
     let s = start .args .s .now in
-    let kept = link-block .kept .1 .1 .1 in
-    listing-more s (start .args .places .now) (start .args .order .now) (start .args .count) (start .pre .0) (lent start) (links-now inside) (start .pre .1) (loop .i) (loop .inv) (test .taken)
-    _ (link-block .ensures) (kept .0) (kept .1 .0) (kept .1 .1 .0)
+    let done = c .before .before .before .before .before .before .before .before .before .before .before .before .before .before .before .loop .done in
+    let count = start .args .count in
+    let kept = c .before .before .before .before .before .before .link-block .kept .1 .1 .1 in
+    let next : (count - done) - 1 ≡ count - (done + 1) = omega arith in
+    let places = start .args .places .now in
+    let linked =
+    c .before .before .before .before .before .before .link-block .ensures
+    ∙ ap
+    (λ (j : ℕ).
+    let b = getD (start .args .order .now) j 0 in
+    foldl (linkEdge b) (links-now inside) (named 7 (between s (getD places b 0 + 1) (getD places (b + 1) 0))))
+    (c .before .before .before .before .before .before .before .before .before .before .before .before .before .from-top .ensures .0) in
+    subst (Listing s (lent start) _) next
+    (listing-more s (start .args .places .now) (start .args .order .now) count (start .pre .0) (lent start) (links-now inside) (start .pre .1) (count - done) (c .before .before .before .before .before .before .before .before .before .before .before .before .before .before .before .loop .inv) (omega (arith, c .before .before .before .before .before .before .before .before .before .before .before .before .before .before .loop-test .taken))
+    _ linked (kept .0) (kept .1 .0) (kept .1 .1 .0))
 
 same-length : tie.Need-same-length Inv-loop μ-loop
 same-length c = c .before .loop .inv .first
@@ -96,8 +117,7 @@ same-length-3 c = c .before .loop .inv .next
 returns : tie.Need-returns Inv-loop μ-loop
 returns c =
     let start = c .before .before .before .before .before .before .before .before in
-    let s = start .args .s .now in
-    listing-done s (start .args .places .now) (start .args .order .now) (start .args .count) (start .pre .0) (lent start) _ (start .pre .1) (c .before .loop .i) (c .before .loop .inv) (omega arith)
+    listing-done (start .args .s .now) (start .args .places .now) (start .args .order .now) (start .args .count) (start .pre .0) (lent start) _ (start .pre .1) (start .args .count - c .before .loop .done) (c .before .loop .inv) (omega (arith, c .loop-test .left))
 
 pub link-predecessors-spec : {M : Type 1} → statement M
 link-predecessors-spec =
@@ -106,7 +126,7 @@ link-predecessors-spec =
     Inv-loop
     μ-loop
     loop-holds
-    sub-i
+    from-top-requires
     mul-p
     shared-slice-read-p
     mul-link-block
@@ -116,6 +136,7 @@ link-predecessors-spec =
     mul-link-block-2
     shared-slice-read-link-block-2
     link-block-requires
+    add-done
     loop-less
     loop-again
     same-length
