@@ -197,3 +197,11 @@ surveyed-walked {s} {lent} {back} b g a =
     (b .order .0)
     (g .order ∙ chosen (functionPasses s) (padded (length (lent .order)) (reachable f)) (lent .order) passes)
     (g .counted ∙ chosen (functionPasses s) (length (reachable f)) 0 passes)
+
+-- the file by its tables, with the indices of its blocks
+pub record Indexed (s places order index : List ℕ) (blocks : BlockCounts) : Type 0 where
+  pub accepted : T (isAccepted (firstOf (fileRefusals s)))
+  pub walked : Walked s places order (blocks .reachable)
+  pub all-counted : blocks .all ≡ length (functionIn s .blocks)
+  pub indexed : index ≡ indexTable (functionIn s) (length index)
+  pub index-long : largestBlocks ≤ length index

@@ -1,5 +1,5 @@
 -- The whole answer of the list of one safepoint, as its functions come to it.
-use Prim.Native.Nat.{ℕ, _<_, _≤_, _*_}
+use Prim.Native.Nat.{ℕ, _<_, _≤_}
 use mathlib.Core.Path.{_≡_, refl, sym, ap, subst, _∙_}
 use mathlib.Core.Bool.{Bool, true, false, not, _||_}
 use mathlib.Core.Option.{Option, none, some}
@@ -9,29 +9,27 @@ use lib.ListN.{length, replicate, List·getD-eq-default}
 use lib.Seq.{sets}
 use lib.Dec.{T, eqb, ltb, ltb→lt, nltb→le}
 use borrow.Author.Tests.{lt-ltb, le-ltb}
-use Rattle.rules.specs.Limits.{largestInstructions, tableWords, rowWords}
+use Rattle.rules.specs.Limits.{largestInstructions, tableWords}
 use Rattle.rules.specs.Lists.{all, isNone, orElse, NumberSet, padded}
 use Rattle.rules.specs.Tree.{Function}
 use Rattle.rules.specs.File.{functionIn}
-use Rattle.rules.specs.Liveness.{process, lists}
+use Rattle.rules.specs.Liveness.{lists}
 use Rattle.rules.specs.Refusals.{refusalNumber, Refusal, _when_, firstOf, fileRefusals}
 use Rattle.rules.specs.Services.{isAccepted, lent, needed, listAsked, listVerdict, listAnswer, listWords}
 use Rattle.rules.specs.declared.ListAnswer.{ListAnswer}
 use Rattle.rules.specs.declared.Verdict.{Verdict}
 use Rattle.rules.specs.declared.Verdict.the-variants as verdict
 use Rattle.lists.specs.Tests.{test-elim, and-left, and-right, chosen, left-out}
-use Rattle.graph.specs.Few.{values-few, blocks-few, instructions-few}
+use Rattle.graph.specs.Few.{values-few, instructions-few}
 use Rattle.graph.specs.Room.{blank-zeros}
 use Rattle.graph.specs.Tables.{indexTable, length-indexTable}
 use Rattle.graph.specs.Zeros.{Zeros, sets-padded}
-use Rattle.rows.specs.Rows.{rows}
 use Rattle.listing.specs.Ascending.{ascending, list-ascending, length-lists-instructions}
 use Rattle.listing.specs.Crossings.{listed}
-use Rattle.listing.specs.Tables.{IndexTables, ListTables}
 use Rattle.acceptance.specs.Stages.{firstOf-append, functionPasses}
-use Rattle.acceptance.specs.Survey.{SurveyTables, BlankTables, Surveyed, accepted-is, accepted-passes, surveyed-walked}
+use Rattle.acceptance.specs.Survey.{SurveyTables, BlankTables, Surveyed, accepted-is, accepted-passes, surveyed-walked, Indexed}
 use Rattle.acceptance.specs.declared.survey.BlockCounts.{BlockCounts}
-use Rattle.services.specs.Live.{Lent, Indexed}
+use Rattle.services.specs.Live.{Lent}
 use Rattle.services.specs.ListRow.{rowAnswer, rowNumbers}
 
 -- THE ROW'S ANSWER: too short, or its values
@@ -173,27 +171,6 @@ file-uncounted s refused k = first (fileRefusals s) tt refused
 
 -- THE TABLES for the lists of an accepted file
 module _ {s places order index : List ℕ} {blocks : BlockCounts} (h : Indexed s places order index blocks) where
-  pub index-tables : IndexTables s places index
-  index-tables =
-      record {
-        given = h .walked .given;
-        indexed = h .indexed;
-        indexRoom = omega (arith, blocks-few s (accepted-is s (h .accepted) .readable .few), h .index-long);
-      }
-
-  pub list-tables :
-      (outs : List ℕ) (room : ℕ) → length outs ≡ tableWords → rows outs ≡ process (functionIn s) .outs
-      → largestInstructions * rowWords ≤ room → ListTables s places index outs room
-  list-tables outs room long live enough =
-      let r = accepted-is s (h .accepted) .readable in
-      record {
-        tables = index-tables;
-        values = values-few s (r .few);
-        live = live;
-        outsRoom = omega (arith, blocks-few s (r .few));
-        listsRoom = omega (arith, length-lists-instructions (functionIn s), instructions-few s (r .few) (r .inOrder));
-      }
-
   pub lent-own : Lent s places order blocks (replicate tableWords 0) (replicate tableWords 0)
   lent-own =
       record {

@@ -1,16 +1,12 @@
 -- What is lent for the live tables of a file that was surveyed and not refused.
-use Prim.Native.Nat.{ℕ, _≤_}
+use Prim.Native.Nat.{ℕ}
 use mathlib.Core.Path.{_≡_}
 use mathlib.Core.List.{List}
 use lib.ListN.{length, replicate}
-use lib.Dec.{T}
 use Rattle.rules.specs.Limits.{largestBlocks, largestEdges, tableWords}
 use Rattle.rules.specs.File.{functionIn}
-use Rattle.rules.specs.Refusals.{firstOf, fileRefusals}
-use Rattle.rules.specs.Services.{isAccepted}
 use Rattle.graph.specs.Room.{Blank, blank-zeros}
 use Rattle.graph.specs.Links.{Walked}
-use Rattle.graph.specs.Tables.{indexTable}
 use Rattle.acceptance.specs.Stages.{Readable}
 use Rattle.acceptance.specs.declared.survey.BlockCounts.{BlockCounts}
 use Rattle.analysis.specs.Analysis.{liveTables, Analysable}
@@ -22,14 +18,6 @@ pub record Lent (s places order : List ℕ) (blocks : BlockCounts) (ins outs : L
   pub all-counted : blocks .all ≡ length (functionIn s .blocks)
   pub in-blank : Blank tableWords ins
   pub out-blank : Blank tableWords outs
-
--- the file by its tables, with the indices of its blocks
-pub record Indexed (s places order index : List ℕ) (blocks : BlockCounts) : Type 0 where
-  pub accepted : T (isAccepted (firstOf (fileRefusals s)))
-  pub walked : Walked s places order (blocks .reachable)
-  pub all-counted : blocks .all ≡ length (functionIn s .blocks)
-  pub indexed : index ≡ indexTable (functionIn s) (length index)
-  pub index-long : largestBlocks ≤ length index
 
 -- so with zeros of its own the analysis can begin
 pub lent-analysable :

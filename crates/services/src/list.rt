@@ -4,7 +4,7 @@ ghost use lib.ListN.{length, replicate};
 ghost use Rattle.rules.specs.Services.{listAnswer, listWords};
 ghost use Prim.Native.Nat.{_≤_};
 ghost use Rattle.rows.specs.Rows.{rows, rowValues, HasRow};
-ghost use Rattle.services.specs.Live.{Indexed};
+ghost use Rattle.acceptance.specs.Survey.{Indexed};
 ghost use Rattle.services.specs.ListRow.{rowAnswer, rowNumbers};
 use crate::clearing::clear_numbers;
 use crate::tables::live_tables;
