@@ -30,7 +30,7 @@ impl Display for Parted {
 }
 
 /// The first `steps` steps of both runs, compared in full.
-pub fn together(original: &Function, rewritten: &Function, trial: Trial, steps: u64) -> Result<Walked, Parted> {
+pub fn together(original: &Function, rewritten: &Function, trial: Trial, steps: u64) -> Result<Walked, Box<Parted>> {
     trial.setting(Which::Original, |first| {
         trial.setting(Which::Rewritten, |second| {
             compare(Run::original(original, first), Run::rewritten(rewritten, second), original.instructions(), steps)
@@ -38,12 +38,12 @@ pub fn together(original: &Function, rewritten: &Function, trial: Trial, steps: 
     })
 }
 
-fn compare(mut original: Run, mut rewritten: Run, instructions: usize, steps: u64) -> Result<Walked, Parted> {
+fn compare(mut original: Run, mut rewritten: Run, instructions: usize, steps: u64) -> Result<Walked, Box<Parted>> {
     let mut entries = vec![0; instructions];
     for step in 0..steps {
         let (left, right) = (original.next(), rewritten.next());
         if left != right {
-            return Err(Parted { step, original: left, rewritten: right });
+            return Err(Box::new(Parted { step, original: left, rewritten: right }));
         }
         let Some(seen) = left else { return Ok(walked(step, &entries)) };
         // A block is told by its first instruction.

@@ -14,8 +14,8 @@ use crate::record::{Record, bytes, kind, parse};
 use crate::services::Services;
 use crate::sheets::{P1_OUTPUT, SHEETS};
 
-/// How many seeds are tried for a world and a mover that show a difference.
-const TRIALS: u64 = 64;
+/// How many seeds are tried, in each manner, for a world and a mover that show a difference.
+const SEEDS: u64 = 64;
 
 pub const P1: &str = SHEETS[0].file;
 
@@ -72,35 +72,33 @@ pub const WRONG: [Wrong; 5] = [
 
 /// The trials of the search.
 fn trials() -> impl Iterator<Item = Trial> {
-    (0..TRIALS).flat_map(|seed| Manner::ALL.into_iter().map(move |manner| Trial { seed, manner }))
-}
-
-fn tree(text: &str) -> Result<Function, String> {
-    read(&parse(text))
+    (0..SEEDS).flat_map(|seed| Manner::ALL.into_iter().map(move |manner| Trial { seed, manner }))
 }
 
 /// Each wrong output must be seen to differ in some trial of the search, and what the party leaves of the same file in
 /// none. Gives a line for each, which says how many trials saw it and where the first one did.
 pub fn wrong_outputs_are_seen(party: &mut dyn Services) -> Result<Vec<String>, String> {
-    WRONG.iter().map(|wrong| seen(party, wrong).map_err(|fault| format!("{}: {fault}", wrong.name))).collect()
+    WRONG.iter().map(|wrong| seen(party, wrong)).collect()
 }
 
 fn seen(party: &mut dyn Services, wrong: &Wrong) -> Result<String, String> {
-    let original = tree(wrong.original)?;
+    let original = read(&parse(wrong.original))?;
     let right = read(&final_records(party, &bytes(&parse(wrong.original)), 8)?.1)?;
     let output = read(&wrong.output())?;
     let steps = enough_steps(&original);
-    if let Some(parted) = trials().find_map(|trial| together(&original, &right, trial, steps).err()) {
-        return Err(format!("what the party leaves of the original differs: {parted}"));
+    let differs = |output, trial| together(&original, output, trial, steps).err();
+    if let Some(parted) = trials().find_map(|trial| differs(&right, trial)) {
+        return Err(format!("what the party leaves of the original differs: {parted}\n  {}", wrong.original));
     }
-    let parted = trials().filter_map(|trial| together(&original, &output, trial, steps).err());
-    told(wrong.name, parted.collect())
+    told(wrong.name, trials().map(|trial| differs(&output, trial)).collect())
 }
 
-fn told(name: &str, parted: Vec<Parted>) -> Result<String, String> {
-    let first = parted.first().ok_or("no trial saw a difference")?;
-    let all = TRIALS as usize * Manner::ALL.len();
-    Ok(format!("{name}: seen in {} of {all} trials, first at step {}", parted.len(), first.step))
+/// Says in how many trials the runs parted, where there is one.
+fn told(name: &str, parted: Vec<Option<Box<Parted>>>) -> Result<String, String> {
+    let trials = parted.len();
+    let seen: Vec<_> = parted.into_iter().flatten().collect();
+    let first = seen.first().ok_or_else(|| format!("{name}: none of {trials} trials saw a difference"))?;
+    Ok(format!("{name}: seen in {} of {trials} trials, first at step {}", seen.len(), first.step))
 }
 
 /// The undominated file must be told undominated, and its runs along [`UNDOMINATED_PATH`] must differ in some trial,
@@ -116,14 +114,13 @@ pub fn domination_is_needed(party: &mut dyn Services) -> Result<String, String> 
     told("the undominated file along blocks 0, 1, 2, 1, 3", parted)
 }
 
-fn along_path(original: &Function, rewritten: &Function) -> Result<Vec<Parted>, String> {
-    let steps = UNDOMINATED_PATH.len() as u64;
+/// Where the runs part in each trial that goes along the path.
+fn along_path(original: &Function, rewritten: &Function) -> Result<Vec<Option<Box<Parted>>>, String> {
+    let steps = UNDOMINATED_PATH.len();
     let mut parted = Vec::new();
     for trial in trials() {
-        let run = |which| {
-            trial
-                .setting(which, |first| Run::original(original, first).take(UNDOMINATED_PATH.len()).collect::<Vec<_>>())
-        };
+        let run =
+            |which| trial.setting(which, |setting| Run::original(original, setting).take(steps).collect::<Vec<_>>());
         let (seen, with_other_first_words) = (run(Which::Original), run(Which::Rewritten));
         if !seen.iter().map(|seen| seen.instruction).eq(UNDOMINATED_PATH) {
             continue;
@@ -131,7 +128,7 @@ fn along_path(original: &Function, rewritten: &Function) -> Result<Vec<Parted>, 
         if seen != with_other_first_words {
             return Err(format!("{trial:?} reads a word that nobody set"));
         }
-        parted.extend(together(original, rewritten, trial, steps).err());
+        parted.push(together(original, rewritten, trial, steps as u64).err());
     }
     Ok(parted)
 }
