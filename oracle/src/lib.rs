@@ -3,7 +3,7 @@
 //! Two parties that share no code beyond reading and writing records. [`source`] runs the Rust module, unchanged, over a
 //! stand-in for the tables that it leans on. [`decision`] is document 01 written out plainly, refusals and whole
 //! answers. [`compare`] holds one against the other on the files of [`generate`]; [`fixed`] keeps some hundreds of
-//! answers as text.
+//! answers as text. [`runs`] executes a file beside what rewriting leaves of it.
 
 pub mod compare;
 pub mod decision;
@@ -12,6 +12,7 @@ pub mod generate;
 #[cfg(feature = "library")]
 pub mod library;
 pub mod record;
+pub mod runs;
 pub mod services;
 pub mod sheets;
 pub mod source;

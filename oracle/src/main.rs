@@ -1,9 +1,11 @@
-//! The oracle's commands: compare, sheets, fixed, library.
+//! The oracle's commands: compare, sheets, fixed, runs, library.
 
 use oracle::compare::{Met, against_module, batch};
 use oracle::decision::Decision;
 use oracle::fixed;
 use oracle::record::parse;
+use oracle::runs;
+use oracle::services::Services;
 use oracle::sheets::{SHEETS, decided, from_module};
 use oracle::source;
 use std::fs;
@@ -14,6 +16,7 @@ const USAGE: &str = "\
 oracle compare [--files N] [--seed S]   the source module against the plain decision on N generated files
 oracle sheets                           both on document 01's sheets P1 to P11
 oracle fixed --write | --check          makes the fixed list, or makes it again, compares and replays it
+oracle runs [--files N] [--seed S]      the two runs of demand 3 on N dominated files, and that wrong outputs are seen
 oracle library [--files N] [--seed S]   the library written in Rattle: replays what the fixed list has of its services, and
                                         compares their whole answers with the plain decision's on N generated files
                                         (feature `library`)";
@@ -30,6 +33,7 @@ fn main() -> ExitCode {
         ["sheets"] => sheets(),
         ["fixed", "--write"] => write_fixed(),
         ["fixed", "--check"] => check_fixed(),
+        ["runs", options @ ..] => two_runs(&mut Decision::default(), options),
         #[cfg(feature = "library")]
         ["library", options @ ..] => library(options),
         _ => Err(USAGE.to_string()),
@@ -77,6 +81,27 @@ fn compare(options: &[&str]) -> Result<(), String> {
         0 if source::PRESENT => println!("no difference but the landing's cold word, as listed in docs/DIFFERENCES.md"),
         0 => println!("decided without a comparison"),
         count => return Err(format!("{count} differences")),
+    }
+    Ok(())
+}
+
+/// Any party's rewriting, by the two runs of demand 3.
+fn two_runs(party: &mut dyn Services, options: &[&str]) -> Result<(), String> {
+    let (files, seed) = files_and_seed(options)?;
+    let start = Instant::now();
+    for line in runs::wrong::wrong_outputs_are_seen(party)? {
+        println!("{line}");
+    }
+    println!("{}", runs::wrong::domination_is_needed(party)?);
+    let tally = runs::batch(party, seed, files);
+    let seconds = start.elapsed().as_secs_f64();
+    print!("{tally}");
+    println!("{files} dominated files of seed {seed} in {seconds:.1} s");
+    tally.differences.iter().take(20).for_each(|difference| println!("{difference}"));
+    match (tally.differences.len(), tally.too_weak()) {
+        (0, None) => println!("the runs are the same in all of them"),
+        (0, Some(spoil)) => return Err(format!("{spoil:?} was seen too seldom: the comparison is too weak")),
+        (count, _) => return Err(format!("{count} files run otherwise when rewritten")),
     }
     Ok(())
 }

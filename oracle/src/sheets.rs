@@ -93,7 +93,7 @@ pub struct Sheet {
     pub holds: fn(&Facts) -> bool,
 }
 
-const P1_OUTPUT: &str = "1 4 1 0; 1 8 0 0; 1 4 0 0; 1 8 0 0; 10 4 2 0; 2 0 0 0; 4 0 7 0; 5 0 0 0; 12 3 0 0; \
+pub const P1_OUTPUT: &str = "1 4 1 0; 1 8 0 0; 1 4 0 0; 1 8 0 0; 10 4 2 0; 2 0 0 0; 4 0 7 0; 5 0 0 0; 12 3 0 0; \
     13 0 3 0; 4 1 8 0; 11 0 4 0; 12 1 0 0; 14 2 1 4; 4 2 9 0; 6 2 0 0";
 
 pub const SHEETS: [Sheet; 14] = [

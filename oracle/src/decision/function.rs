@@ -74,7 +74,7 @@ impl Edge {
 
 /// The tree of a file whose order and words are those of the table; none where refusal 4 applies.
 pub fn read(records: &[Record]) -> Option<Function> {
-    let mut rest = Rest { records, instructions: 0 };
+    let mut rest = Rest::new(records);
     let values = rest.all(kind::VALUE).into_iter().map(|[_, size, marked, _]| Value { size, marked: marked == 1 });
     let values = values.collect();
     let mut blocks = Vec::new();
@@ -99,14 +99,18 @@ fn words_in_table(record: &Record) -> bool {
     allowed && fourth == 0
 }
 
-/// The records not yet read.
-struct Rest<'a> {
-    records: &'a [Record],
+/// The records not yet read, and how many instructions were. The reader of final records goes on from here too.
+pub(crate) struct Rest<'a> {
+    pub(crate) records: &'a [Record],
     instructions: u32,
 }
 
 impl<'a> Rest<'a> {
-    fn next(&mut self, kind: u32) -> Option<Record> {
+    pub(crate) fn new(records: &'a [Record]) -> Rest<'a> {
+        Rest { records, instructions: 0 }
+    }
+
+    pub(crate) fn next(&mut self, kind: u32) -> Option<Record> {
         let (first, rest) = self.records.split_first()?;
         if first[0] != kind {
             return None;
@@ -116,11 +120,11 @@ impl<'a> Rest<'a> {
     }
 
     /// As many records of the kind as follow one another here.
-    fn all(&mut self, kind: u32) -> Vec<Record> {
+    pub(crate) fn all(&mut self, kind: u32) -> Vec<Record> {
         std::iter::from_fn(|| self.next(kind)).collect()
     }
 
-    fn second_words(&mut self, kind: u32) -> Vec<u32> {
+    pub(crate) fn second_words(&mut self, kind: u32) -> Vec<u32> {
         self.all(kind).into_iter().map(|record| record[1]).collect()
     }
 
@@ -132,7 +136,7 @@ impl<'a> Rest<'a> {
         sound.then_some(Block { cold, parameters, instructions })
     }
 
-    fn instruction(&mut self) -> Option<Instruction> {
+    pub(crate) fn instruction(&mut self) -> Option<Instruction> {
         let [_, flags, tag, _] = self.next(kind::INSTRUCTION)?;
         let number = self.instructions;
         self.instructions += 1;
@@ -147,7 +151,7 @@ impl<'a> Rest<'a> {
         })
     }
 
-    fn edge(&mut self) -> Option<Edge> {
+    pub(crate) fn edge(&mut self) -> Option<Edge> {
         let [_, block, ..] = self.next(kind::EDGE)?;
         let arguments = self.all(kind::EDGE_ARGUMENT).into_iter().map(|record| match record[1] {
             edge_argument::RETURNED => EdgeArgument::Returned(record[2]),
