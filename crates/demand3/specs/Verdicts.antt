@@ -100,7 +100,7 @@ block-section rs h b m =
     (from .0, from .1, from .2, isBlock-body (from .0) (all→∈ isBlock (cut (eqb 2) rs .sections) (file-blocks rs h) (from .1)))
 
 -- every block has instructions for items
-plain : (rs : List Record) → T (ordered 0 rs) → (b : Block) → b ∈ function rs .blocks → b .items ≡ map instruction (instructionsOf b)
+pub plain : (rs : List Record) → T (ordered 0 rs) → (b : Block) → b ∈ function rs .blocks → b .items ≡ map instruction (instructionsOf b)
 plain rs h b m =
     let x = block-section rs h b m in
     subst (λ (c : Block). c .items ≡ map instruction (instructionsOf c)) (x .2)

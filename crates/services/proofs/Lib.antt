@@ -1,3 +1,4 @@
 pub mod ListAnswers
 pub mod LiveAnswers
+pub mod RewriteAnswers
 pub mod Zeroed

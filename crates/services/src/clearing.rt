@@ -23,3 +23,14 @@ pub fn clear_numbers(t: &mut [u32])
         i += 1;
     }
 }
+
+// Every byte becomes 0.
+pub fn clear_bytes(t: &mut [u8])
+    ensures { λ _. ⌜ now (t .exit) ≡ replicate (length (now (t .entry))) 0 ⌝ }
+{
+    let mut i: usize = 0;
+    while i < t.len() {
+        t[i] = 0;
+        i += 1;
+    }
+}

@@ -4,4 +4,5 @@ mod clearing;
 pub mod finals;
 pub mod list;
 pub mod liveness;
+pub mod rewrite;
 mod tables;
