@@ -1,3 +1,4 @@
+pub mod Lines
 pub mod ListAnswers
 pub mod LiveAnswers
 pub mod RewriteAnswers

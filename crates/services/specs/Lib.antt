@@ -2,3 +2,4 @@ pub mod Finals
 pub mod Live
 pub mod ListRow
 pub mod Outcomes
+pub mod Program

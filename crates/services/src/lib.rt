@@ -4,5 +4,6 @@ mod clearing;
 pub mod finals;
 pub mod list;
 pub mod liveness;
+pub mod program;
 pub mod rewrite;
 mod tables;

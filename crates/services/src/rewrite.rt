@@ -26,7 +26,7 @@ use rules::Verdict;
 use stackslots::sizes::has_slot_sizes;
 
 // A refusal, with no counts.
-fn refused(verdict: Verdict) -> RewritingAnswer
+pub fn refused(verdict: Verdict) -> RewritingAnswer
     ensures { λ r. ⌜ r ≡ refusedBy verdict ⌝ }
 {
     RewritingAnswer {

@@ -1,0 +1,75 @@
+-- `services::program::refused_line` meets its contract.
+use Prim.Native.Nat.{ℕ, _<_}
+use mathlib.Core.Path.{sym, ap, subst, _∙_}
+use Rattle.rules.specs.Services.{refusedLine}
+use Rattle.services.proofs.Lines.{refusal-small, line-one, line-two}
+use borrow.Author.Needs.{needs}
+use Rattle.services.proofs.program.refused_line.Statement.{statement}
+use Rattle.services.proofs.program.refused_line.Tie as tie
+use Rattle.services.proofs.program.refused_line.Reads as reads
+use Rattle.services.proofs.program.refused_line.Lts as lts
+use Rattle.acceptance.proofs.verdict.refusal_number.Reads as refusal-number-reads
+
+refusal-number-requires : tie.Need-refusal-number-requires
+refusal-number-requires c κs = search needs
+
+cast-bytes : tie.Need-cast-bytes
+cast-bytes c = search needs
+
+add-bytes : tie.Need-add-bytes
+add-bytes c = search needs
+
+array-write-bytes : tie.Need-array-write-bytes
+array-write-bytes c = search needs
+
+array-write-bytes-2 : tie.Need-array-write-bytes-2
+array-write-bytes-2 c = search needs
+
+returns : tie.Need-returns
+returns c =
+    line-one (c .before .before .before .refusal-number .result) (c .if1 .taken) ∙ ap refusedLine (c .before .before .before .refusal-number .ensures)
+
+cast-bytes-2 : tie.Need-cast-bytes-2
+cast-bytes-2 c = search needs
+
+add-bytes-2 : tie.Need-add-bytes-2
+add-bytes-2 c = search needs
+
+array-write-bytes-3 : tie.Need-array-write-bytes-3
+array-write-bytes-3 c = search needs
+
+cast-bytes-3 : tie.Need-cast-bytes-3
+cast-bytes-3 c = search needs
+
+add-bytes-3 : tie.Need-add-bytes-3
+add-bytes-3 c = search needs
+
+array-write-bytes-4 : tie.Need-array-write-bytes-4
+array-write-bytes-4 c = search needs
+
+array-write-bytes-5 : tie.Need-array-write-bytes-5
+array-write-bytes-5 c = search needs
+
+returns-2 : tie.Need-returns-2
+returns-2 c =
+    line-two (c .before .before .before .refusal-number .result) (c .if1 .left) (subst (λ (n : ℕ). n < 12) (sym (c .before .before .before .refusal-number .ensures)) (refusal-small (c .before .before .before .before .args .verdict)))
+    ∙ ap refusedLine (c .before .before .before .refusal-number .ensures)
+
+pub refused-line-spec : {M : Type 1} → statement M
+refused-line-spec =
+    tie.close
+    (tie.spec
+    refusal-number-requires
+    cast-bytes
+    add-bytes
+    array-write-bytes
+    array-write-bytes-2
+    returns
+    cast-bytes-2
+    add-bytes-2
+    array-write-bytes-3
+    cast-bytes-3
+    add-bytes-3
+    array-write-bytes-4
+    array-write-bytes-5
+    returns-2)

@@ -1,0 +1,49 @@
+-- `services::program::respond` meets its contract.
+use mathlib.Core.Path.{_∙_}
+use lib.ListN.{length}
+use Rattle.services.proofs.Lines.{program-long, program-rewrites}
+use borrow.Author.Needs.{needs}
+use Rattle.services.proofs.program.respond.Statement.{statement}
+use Rattle.services.proofs.program.respond.Tie as tie
+use Rattle.services.proofs.program.respond.Reads as reads
+use Rattle.services.proofs.program.respond.Lts as lts
+use Rattle.services.proofs.clearing.clear_bytes.Reads as clear-bytes-reads
+use Rattle.services.proofs.rewrite.refused.Reads as refused-reads
+use Rattle.services.proofs.rewrite.rewrite.Reads as rewrite-reads
+
+clear-bytes-requires : tie.Need-clear-bytes-requires
+clear-bytes-requires c κs = search needs
+
+refused-requires : tie.Need-refused-requires
+refused-requires c κs = search needs
+
+same-length : tie.Need-same-length
+same-length c = search needs
+
+returns : tie.Need-returns
+returns c =
+    let said = program-long (c .before .before .before .before .before .before .before .before .args .s .now) (length (c .before .before .before .before .before .before .before .before .args .out .now)) (c .before .before .before .before .before .if1 .taken) in
+    (c .refused .ensures ∙ said .0, c .before .before .before .clear-bytes .ensures ∙ said .1)
+
+rewrite-requires : tie.Need-rewrite-requires
+rewrite-requires c κs = search needs
+
+same-length-2 : tie.Need-same-length-2
+same-length-2 c = search needs
+
+returns-2 : tie.Need-returns-2
+returns-2 c =
+    let said = program-rewrites (c .before .before .before .before .before .before .before .args .s .now) (length (c .before .before .before .before .before .before .before .args .out .now)) (c .before .before .before .before .if1 .left) in
+    (c .before .before .rewrite .ensures .0 ∙ said .0, c .before .before .rewrite .ensures .1 ∙ said .1)
+
+pub respond-spec : {M : Type 1} → statement M
+respond-spec =
+    tie.close
+    (tie.spec
+    clear-bytes-requires
+    refused-requires
+    same-length
+    returns
+    rewrite-requires
+    same-length-2
+    returns-2)
