@@ -17,9 +17,9 @@ oracle compare [--files N] [--seed S]   the source module against the plain deci
 oracle sheets                           both on document 01's sheets P1 to P11
 oracle fixed --write | --check          makes the fixed list, or makes it again, compares and replays it
 oracle runs [--files N] [--seed S]      the two runs of demand 3 on N dominated files, and that wrong outputs are seen
-oracle library [--files N] [--seed S]   the library written in Rattle: replays what the fixed list has of its services, and
-                                        compares their whole answers with the plain decision's on N generated files
-                                        (feature `library`)";
+oracle library [--files N] [--seed S]   the library written in Rattle: replays the fixed list, compares its whole answers with
+                                        the plain decision's on N generated files, and runs N dominated files beside
+                                        what it makes of them (feature `library`)";
 
 /// Where the list stands, from the package's folder or from the repository's.
 const LISTS: [&str; 2] = ["fixed/answers.txt", "oracle/fixed/answers.txt"];
@@ -108,36 +108,28 @@ fn two_runs(party: &mut dyn Services, options: &[&str]) -> Result<(), String> {
 
 #[cfg(feature = "library")]
 fn library(options: &[&str]) -> Result<(), String> {
-    use oracle::compare::{live_batch, refusals_batch};
-    use oracle::fixed::{replay_live, replay_refusals};
+    use oracle::compare::{refusals_batch, services_batch};
+    use oracle::fixed::replay_refusals;
     use oracle::library::{Library, check};
     let path = list_path()?;
     let list = fs::read_to_string(path).map_err(|error| format!("{path}: {error}"))?;
     let (refused, let_pass) = replay_refusals(&list, check)?;
     println!("{path}: {refused} lines with a refusal of 2 to 8 and {let_pass} without, replayed");
+    println!("{path}: {:?}, replayed", fixed::replay(&list, &mut Library)?);
     let (files, seed) = files_and_seed(options)?;
     let start = Instant::now();
     let met = refusals_batch(check, seed, files);
-    let seconds = start.elapsed().as_secs_f64();
     for ((family, refusal), count) in &met.counts {
-        println!(
-            "{:12} {:>8} {}",
-            format!("{family:?}"),
-            count,
-            if *refusal == 0 { "accepted".to_string() } else { format!("refused {refusal}") }
-        );
+        let said = if *refusal == 0 { "accepted".to_string() } else { format!("refused {refusal}") };
+        println!("{:12} {count:>8} {said}", format!("{family:?}"));
     }
-    println!("the library's checks on {files} files of seed {seed}, {seconds:.1} s with the decision's");
-    let (tables, lists) = replay_live(&list, &mut Library)?;
-    println!("{path}: {tables} lines of liveness and {lists} of lists, replayed");
-    let start = Instant::now();
     let mut differences = met.differences;
-    differences.extend(live_batch(&mut Library, seed, files));
+    differences.extend(services_batch(&mut Library, seed, files));
     let seconds = start.elapsed().as_secs_f64();
-    println!("the library's liveness and lists on {files} files of seed {seed}, {seconds:.1} s with the decision's");
+    println!("the library's checks and four services on {files} files of seed {seed}, {seconds:.1} s with the decision's");
     differences.iter().take(20).for_each(|difference| println!("{difference}"));
     match differences.len() {
-        0 => Ok(()),
+        0 => two_runs(&mut Library, options),
         count => Err(format!("{count} differences")),
     }
 }

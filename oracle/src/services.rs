@@ -54,14 +54,10 @@ impl Part {
     }
 }
 
-/// The two services of liveness. Each lent buffer may hold anything before a call; the answer fixes all of it afterwards.
-pub trait LivenessServices {
+/// Each lent buffer may hold anything before a call; the answer fixes all of it afterwards.
+pub trait Services {
     fn liveness(&mut self, file: &[u8], live_in: &mut [u64], live_out: &mut [u64]) -> LivenessAnswer;
     fn list(&mut self, file: &[u8], instruction: u32, list: &mut [u32]) -> ListAnswer;
-}
-
-/// All four.
-pub trait Services: LivenessServices {
     fn rewrite(&mut self, file: &[u8], pointer_size: u32, output: &mut [u8]) -> RewriteAnswer;
     fn final_records(&mut self, answer: &RewriteAnswer, input: &[u8], output: &[u8]) -> Part;
 }

@@ -3,7 +3,7 @@
 use oracle::compare::against_module;
 use oracle::decision::Decision;
 use oracle::fixed::{cases, replay, write};
-use oracle::services::{ListAnswer, LivenessAnswer, LivenessServices, Part, RewriteAnswer, Services};
+use oracle::services::{ListAnswer, LivenessAnswer, Part, RewriteAnswer, Services};
 use oracle::source::Module;
 
 const LIST: &str = include_str!("../fixed/answers.txt");
@@ -61,7 +61,7 @@ fn notes_mean_what_they_say() {
 /// Answers as the decision does, but for one thing.
 struct FirstFault(Decision);
 
-impl LivenessServices for FirstFault {
+impl Services for FirstFault {
     fn liveness(&mut self, file: &[u8], live_in: &mut [u64], live_out: &mut [u64]) -> LivenessAnswer {
         self.0.liveness(file, live_in, live_out)
     }
@@ -69,9 +69,7 @@ impl LivenessServices for FirstFault {
     fn list(&mut self, file: &[u8], instruction: u32, list: &mut [u32]) -> ListAnswer {
         self.0.list(file, instruction, list)
     }
-}
 
-impl Services for FirstFault {
     fn rewrite(&mut self, file: &[u8], pointer_size: u32, output: &mut [u8]) -> RewriteAnswer {
         let answer = self.0.rewrite(file, pointer_size, output);
         RewriteAnswer { landings: answer.landings.min(1), ..answer }

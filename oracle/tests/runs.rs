@@ -8,7 +8,7 @@ use oracle::runs::run::{Asking, Run, Seen, Setting, World};
 use oracle::runs::tree::{Function, read};
 use oracle::runs::wrong::{P1, P5, P6, UNDOMINATED, WRONG, domination_is_needed, wrong_outputs_are_seen};
 use oracle::runs::{batch, rewritten::final_records};
-use oracle::services::{ListAnswer, LivenessAnswer, LivenessServices, Part, RewriteAnswer, Services};
+use oracle::services::{ListAnswer, LivenessAnswer, Part, RewriteAnswer, Services};
 use oracle::sheets::P1_OUTPUT;
 
 /// Each word tells its step, instruction and place. At the steps given the second edge is taken, otherwise the first.
@@ -198,16 +198,14 @@ fn generated_files_run_alike() {
 /// The decision with one thing changed in what it leaves.
 struct Wrongly(Decision, fn(Vec<Record>) -> Vec<Record>);
 
-impl LivenessServices for Wrongly {
+impl Services for Wrongly {
     fn liveness(&mut self, file: &[u8], live_in: &mut [u64], live_out: &mut [u64]) -> LivenessAnswer {
         self.0.liveness(file, live_in, live_out)
     }
     fn list(&mut self, file: &[u8], instruction: u32, list: &mut [u32]) -> ListAnswer {
         self.0.list(file, instruction, list)
     }
-}
 
-impl Services for Wrongly {
     fn rewrite(&mut self, file: &[u8], pointer_size: u32, output: &mut [u8]) -> RewriteAnswer {
         let mut answer = self.0.rewrite(file, pointer_size, output);
         if answer.refusal == 0 && !answer.unchanged {

@@ -4,7 +4,7 @@ use oracle::compare::services_batch;
 use oracle::decision::{Decision, program};
 use oracle::generate::{Random, limits};
 use oracle::record::{bytes, parse};
-use oracle::services::{Buffer, ListAnswer, LivenessAnswer, LivenessServices, Part, RewriteAnswer, Services};
+use oracle::services::{Buffer, ListAnswer, LivenessAnswer, Part, RewriteAnswer, Services};
 use oracle::sheets::SHEETS;
 
 fn p1() -> Vec<u8> {
@@ -106,7 +106,7 @@ enum Fault {
     WrapFinalRecords,
 }
 
-impl LivenessServices for Impostor {
+impl Services for Impostor {
     fn liveness(&mut self, file: &[u8], live_in: &mut [u64], live_out: &mut [u64]) -> LivenessAnswer {
         let mut answer = self.decision.liveness(file, live_in, live_out);
         if self.fault == Fault::InventVisits && answer.refusal == 0 {
@@ -122,9 +122,7 @@ impl LivenessServices for Impostor {
         }
         answer
     }
-}
 
-impl Services for Impostor {
     fn rewrite(&mut self, file: &[u8], pointer_size: u32, output: &mut [u8]) -> RewriteAnswer {
         let rest = output.to_vec();
         let mut answer = self.decision.rewrite(file, pointer_size, output);

@@ -2,11 +2,11 @@
 
 use super::against_module::{Met, against_module};
 use super::shrink::shrink;
-use super::whole_answers::{live_answers, whole_answers};
+use super::whole_answers::whole_answers;
 use crate::decision::Decision;
 use crate::generate::{Family, Random, file};
 use crate::record::{records, text};
-use crate::services::{LivenessServices, Services};
+use crate::services::Services;
 use crate::source::Module;
 use std::collections::BTreeMap;
 use std::fmt::{self, Display};
@@ -116,24 +116,10 @@ pub(super) fn small_file(file: &[u8], told: usize, differs: impl FnMut(&[u8]) ->
 /// first few with the smallest file found.
 pub fn services_batch(party: &mut dyn Services, seed: u64, files: u64) -> Vec<String> {
     let mut decision = Decision::default();
-    answers_batch(seed, files, |file, random| whole_answers(party, &mut decision, file, random))
-}
-
-/// The same for the two services of liveness.
-pub fn live_batch(party: &mut dyn LivenessServices, seed: u64, files: u64) -> Vec<String> {
-    let mut decision = Decision::default();
-    answers_batch(seed, files, |file, random| live_answers(party, &mut decision, file, random))
-}
-
-fn answers_batch(
-    seed: u64,
-    files: u64,
-    mut answers: impl FnMut(&[u8], &mut Random) -> Result<(), String>,
-) -> Vec<String> {
     let mut differences = Vec::new();
     for number in 0..files {
         let generated = file(seed, number);
-        let mut compare = |file: &[u8]| answers(file, &mut Random::new(!seed, number));
+        let mut compare = |file: &[u8]| whole_answers(party, &mut decision, file, &mut Random::new(!seed, number));
         if let Err(difference) = compare(&generated.bytes) {
             let small = small_file(&generated.bytes, differences.len(), |file| compare(file).is_err());
             differences.push(format!("file {number}, {:?}: {difference}{small}", generated.family));

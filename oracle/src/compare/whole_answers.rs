@@ -4,7 +4,7 @@ use crate::decision::Decision;
 use crate::decision::service::TABLE_WORDS;
 use crate::generate::Random;
 use crate::record::RECORD_BYTES;
-use crate::services::{LivenessServices, RewriteAnswer, Services};
+use crate::services::{RewriteAnswer, Services};
 use std::fmt::Debug;
 
 /// What differs, in words. Lent lengths lie around each boundary, buffers hold garbage before the call, and a few places
@@ -23,9 +23,9 @@ pub fn whole_answers(
     invented_answer(subject, decision, random)
 }
 
-/// The same for the two services of liveness.
-pub fn live_answers(
-    subject: &mut dyn LivenessServices,
+/// The two services of liveness.
+fn live_answers(
+    subject: &mut dyn Services,
     decision: &mut Decision,
     file: &[u8],
     random: &mut Random,
@@ -83,7 +83,7 @@ fn same_buffer<T: PartialEq + Debug>(what: &str, decided: &[T], subject: &[T]) -
 }
 
 fn liveness(
-    subject: &mut dyn LivenessServices,
+    subject: &mut dyn Services,
     decision: &mut Decision,
     file: &[u8],
     live_in: usize,
@@ -99,7 +99,7 @@ fn liveness(
 }
 
 fn list(
-    subject: &mut dyn LivenessServices,
+    subject: &mut dyn Services,
     decision: &mut Decision,
     file: &[u8],
     instruction: u32,

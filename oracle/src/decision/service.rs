@@ -5,7 +5,7 @@ use super::rewriting::{rewrite, spills_a_size_without_slots};
 use super::value_set::{ROW_WORDS, ValueSet};
 use super::write::write;
 use crate::record::{RECORD_BYTES, Record, bytes, largest};
-use crate::services::{Buffer, ListAnswer, LivenessAnswer, LivenessServices, Part, RewriteAnswer, Services};
+use crate::services::{Buffer, ListAnswer, LivenessAnswer, Part, RewriteAnswer, Services};
 
 /// What a live table needs.
 pub const TABLE_WORDS: usize = largest::BLOCKS * ROW_WORDS;
@@ -73,7 +73,7 @@ fn table(rows: &[ValueSet]) -> Vec<u64> {
     rows.iter().flat_map(|set| *set.row()).collect()
 }
 
-impl LivenessServices for Decision {
+impl Services for Decision {
     fn liveness(&mut self, file: &[u8], live_in: &mut [u64], live_out: &mut [u64]) -> LivenessAnswer {
         fill(live_in, &[]);
         fill(live_out, &[]);
@@ -106,9 +106,7 @@ impl LivenessServices for Decision {
         fill(list, values);
         ListAnswer { refusal: 0, count }
     }
-}
 
-impl Services for Decision {
     fn rewrite(&mut self, file: &[u8], pointer_size: u32, output: &mut [u8]) -> RewriteAnswer {
         fill(output, &[]);
         let (answer, records) = self.rewritten(file, pointer_size);

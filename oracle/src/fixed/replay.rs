@@ -2,7 +2,7 @@
 
 use crate::decision::value_set::ROW_WORDS;
 use crate::record::{RECORD_BYTES, Record, bytes};
-use crate::services::{Buffer, ListAnswer, LivenessAnswer, LivenessServices, Part, RewriteAnswer, Services};
+use crate::services::{Buffer, ListAnswer, LivenessAnswer, Part, RewriteAnswer, Services};
 use std::collections::BTreeMap;
 use std::collections::btree_map::Entry;
 use std::fmt::Debug;
@@ -131,7 +131,7 @@ fn file(reader: &mut Reader) -> Result<Vec<u8>, String> {
 }
 
 fn live_tables(
-    party: &mut dyn LivenessServices,
+    party: &mut dyn Services,
     file: &[u8],
     numbers: &[u64],
     reader: &mut Reader,
@@ -147,7 +147,7 @@ fn live_tables(
 }
 
 fn list_of_one(
-    party: &mut dyn LivenessServices,
+    party: &mut dyn Services,
     file: &[u8],
     numbers: &[u64],
     reader: &mut Reader,
@@ -162,32 +162,6 @@ fn list_of_one(
     let said = party.list(file, instruction as u32, &mut lent);
     same(&format!("list of {instruction}"), ListAnswer { refusal: refusal as u32, count }, said)?;
     same("list", listed, lent)
-}
-
-/// Replays what the list has of the two services of liveness; answers how many lines of each.
-pub fn replay_live(list: &str, party: &mut dyn LivenessServices) -> Result<(u64, u64), String> {
-    let mut reader = Reader { lines: list.lines(), next: None };
-    let (mut number, mut bytes, mut tables, mut lists) = (0, Vec::new(), 0, 0);
-    while let Some((letter, numbers)) = reader.next() {
-        let said = match letter {
-            'N' => {
-                number += 1;
-                bytes = file(&mut reader)?;
-                Ok(())
-            }
-            'L' => {
-                tables += 1;
-                live_tables(party, &bytes, &numbers, &mut reader)
-            }
-            'Q' => {
-                lists += 1;
-                list_of_one(party, &bytes, &numbers, &mut reader)
-            }
-            _ => Ok(()),
-        };
-        said.map_err(|words| format!("file {number}: {words}"))?;
-    }
-    Ok((tables, lists))
 }
 
 struct Replay<'a> {

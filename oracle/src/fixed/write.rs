@@ -6,7 +6,7 @@ use crate::decision::service::{PROGRAM_OUTPUT, TABLE_WORDS};
 use crate::decision::value_set::ROW_WORDS;
 use crate::decision::{Decision, program};
 use crate::record::{RECORD_BYTES, Record, kind, records};
-use crate::services::{Buffer, LivenessServices, Part, RewriteAnswer, Services};
+use crate::services::{Buffer, Part, RewriteAnswer, Services};
 use std::fmt::{Display, Write};
 
 /// The whole list.

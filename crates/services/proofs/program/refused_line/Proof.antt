@@ -1,6 +1,7 @@
 -- `services::program::refused_line` meets its contract.
 use Prim.Native.Nat.{ℕ, _<_}
 use mathlib.Core.Path.{sym, ap, subst, _∙_}
+use native.Mathlib.Omega.{arith}
 use Rattle.rules.specs.Services.{refusedLine}
 use Rattle.services.proofs.Lines.{refusal-small, line-one, line-two}
 use borrow.Author.Needs.{needs}
@@ -27,7 +28,7 @@ array-write-bytes-2 c = search needs
 
 returns : tie.Need-returns
 returns c =
-    line-one (c .before .before .before .refusal-number .result) (c .if1 .taken) ∙ ap refusedLine (c .before .before .before .refusal-number .ensures)
+    (line-one (c .before .before .before .refusal-number .result) (c .if1 .taken) ∙ ap refusedLine (c .before .before .before .refusal-number .ensures), omega arith)
 
 cast-bytes-2 : tie.Need-cast-bytes-2
 cast-bytes-2 c = search needs
@@ -52,8 +53,8 @@ array-write-bytes-5 c = search needs
 
 returns-2 : tie.Need-returns-2
 returns-2 c =
-    line-two (c .before .before .before .refusal-number .result) (c .if1 .left) (subst (λ (n : ℕ). n < 12) (sym (c .before .before .before .refusal-number .ensures)) (refusal-small (c .before .before .before .before .args .verdict)))
-    ∙ ap refusedLine (c .before .before .before .refusal-number .ensures)
+    let small = subst (λ (n : ℕ). n < 12) (sym (c .before .before .before .refusal-number .ensures)) (refusal-small (c .before .before .before .before .args .verdict)) in
+    (line-two (c .before .before .before .refusal-number .result) (c .if1 .left) small ∙ ap refusedLine (c .before .before .before .refusal-number .ensures), omega arith)
 
 pub refused-line-spec : {M : Type 1} → statement M
 refused-line-spec =
