@@ -11,6 +11,7 @@ pub mod fixed;
 pub mod generate;
 #[cfg(feature = "library")]
 pub mod library;
+pub mod program;
 pub mod record;
 pub mod runs;
 pub mod services;

@@ -1,4 +1,4 @@
-//! The oracle's commands: compare, sheets, fixed, runs, library.
+//! The oracle's commands: compare, sheets, fixed, runs, library, program.
 
 use oracle::compare::{Met, against_module, batch};
 use oracle::decision::Decision;
@@ -19,7 +19,9 @@ oracle fixed --write | --check          makes the fixed list, or makes it again,
 oracle runs [--files N] [--seed S]      the two runs of demand 3 on N dominated files, and that wrong outputs are seen
 oracle library [--files N] [--seed S]   the library written in Rattle: replays the fixed list, compares its whole answers with
                                         the plain decision's on N generated files, and runs N dominated files beside
-                                        what it makes of them (feature `library`)";
+                                        what it makes of them (feature `library`)
+oracle program PATH [--files N] [--seed S]   the program at PATH: the sheets, the boundaries, the fixed list's files and N
+                                        generated ones on its standard input, with a small stack";
 
 /// Where the list stands, from the package's folder or from the repository's.
 const LISTS: [&str; 2] = ["fixed/answers.txt", "oracle/fixed/answers.txt"];
@@ -36,6 +38,7 @@ fn main() -> ExitCode {
         ["runs", options @ ..] => two_runs(&mut Decision::default(), options),
         #[cfg(feature = "library")]
         ["library", options @ ..] => library(options),
+        ["program", path, options @ ..] => program(path, options),
         _ => Err(USAGE.to_string()),
     };
     match good {
@@ -132,6 +135,15 @@ fn library(options: &[&str]) -> Result<(), String> {
         0 => two_runs(&mut Library, options),
         count => Err(format!("{count} differences")),
     }
+}
+
+/// The program from outside.
+fn program(path: &str, options: &[&str]) -> Result<(), String> {
+    let (files, seed) = files_and_seed(options)?;
+    let start = Instant::now();
+    let asked = oracle::program::ask(path, files, seed)?;
+    println!("{path}: {asked} files, each written as decided, in {:.1} s", start.elapsed().as_secs_f64());
+    Ok(())
 }
 
 fn sheets() -> Result<(), String> {
