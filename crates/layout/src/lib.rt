@@ -1,0 +1,3 @@
+// The rewritten function laid out: its instructions, its blocks with their landings behind them, and the whole.
+pub mod entries;
+pub mod instructions;
