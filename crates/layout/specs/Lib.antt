@@ -2,3 +2,4 @@ pub mod Entries
 pub mod Runs
 pub mod Remade
 pub mod Instruction
+pub mod BlockRuns

@@ -1,3 +1,4 @@
 // The rewritten function laid out: its instructions, its blocks with their landings behind them, and the whole.
+pub mod blocks;
 pub mod entries;
 pub mod instructions;
