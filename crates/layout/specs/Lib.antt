@@ -3,3 +3,5 @@ pub mod Runs
 pub mod Remade
 pub mod Instruction
 pub mod BlockRuns
+pub mod Copied
+pub mod Numbered
