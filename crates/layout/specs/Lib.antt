@@ -5,3 +5,4 @@ pub mod Instruction
 pub mod BlockRuns
 pub mod Copied
 pub mod Numbered
+pub mod Planned

@@ -6,7 +6,7 @@ use mathlib.Core.Option.{Option, none, some}
 use mathlib.Core.List.{List, [], _∷_, _++_, map}
 use native.Mathlib.Omega.{arith}
 use native.Mathlib.Numerals.{add-one}
-use lib.ListN.{length, getD, length-append, length-map}
+use lib.ListN.{length, getD, length-append, length-map, List·getD-append}
 use lib.Dec.{T, eqb, eqb→eq}
 use Rattle.rules.specs.Lists.{all, keep, isNone, orElse, concatMap, has, upFrom, NumberSet, nothing, members}
 use Rattle.rules.specs.Tree.{Instruction, Function}
@@ -78,6 +78,12 @@ module _ (s : List ℕ) (q : ℕ) (m : q ≤ recordCount s) where
   number-behind-run p l = count-more (q - p) p (omega arith)
 
 -- BLOCK BY BLOCK
+getD-behind : {A : Type 0} (xs ys : List A) (i : ℕ) (d : A) → getD (xs ++ ys) (length xs + i) d ≡ getD ys i d
+getD-behind [] ys i d = let same : 0 + i ≡ i = omega arith in ap (λ (n : ℕ). getD ys n d) same
+getD-behind (x ∷ xs) ys i d =
+    let next : suc (length xs) + i ≡ suc (length xs + i) = omega arith in
+    ap (λ (n : ℕ). getD (x ∷ (xs ++ ys)) n d) next ∙ getD-behind xs ys i d
+
 length-among : (f : Function) (is : List Instruction) (out : NumberSet) → length (listsAmong f is out) ≡ length is
 length-among f [] out = refl
 length-among f (i ∷ is) out = ap suc (length-among f is out)
@@ -111,6 +117,26 @@ length-below-more f b =
 below-le : (f : Function) (k b n : ℕ) → b + k ≡ n → length (listsBelow f b) ≤ length (listsBelow f n)
 below-le f zero b n e = let same : n ≡ b = omega arith in rw same (omega arith)
 below-le f (suc k) b n e = omega (arith, below-le f k (suc b) n (omega arith), length-below-more f b)
+
+-- member k of the list that number a + j gives, among the lists of n numbers from a on
+list-within :
+    {A : Type 0} (g : ℕ → List A) (d : A) (k j a n : ℕ) → j < n → k < length (g (a + j))
+    → getD (concatMap g (upFrom a n)) (length (concatMap g (upFrom a j)) + k) d ≡ getD (g (a + j)) k d
+list-within g d k j a zero l m = absurd (omega arith)
+list-within g d k zero a (suc n) l m =
+    let same : a + 0 ≡ a = omega arith in
+    let first : 0 + k ≡ k = omega arith in
+    ap (λ (i : ℕ). getD (g a ++ concatMap g (upFrom (suc a) n)) i d) first
+    ∙ List·getD-append (g a) (concatMap g (upFrom (suc a) n)) d k (subst (λ (x : ℕ). k < length (g x)) same m)
+    ∙ ap (λ (x : ℕ). getD (g x) k d) (sym same)
+list-within g d k (suc j) a (suc n) l m =
+    let next : a + suc j ≡ suc a + j = omega arith in
+    let rest = concatMap g (upFrom (suc a) j) in
+    let at : length (g a ++ rest) + k ≡ length (g a) + (length rest + k) = omega (arith, length-append (g a) rest) in
+    ap (λ (i : ℕ). getD (g a ++ concatMap g (upFrom (suc a) n)) i d) at
+    ∙ getD-behind (g a) (concatMap g (upFrom (suc a) n)) (length rest + k) d
+    ∙ list-within g d k j (suc a) n (omega arith) (subst (λ (x : ℕ). k < length (g x)) next m)
+    ∙ ap (λ (x : ℕ). getD (g x) k d) (sym next)
 
 -- no place of another kind
 no-places : (p : ℕ) (rs : List Record) → Kinds (λ j. not (eqb 4 j)) rs → places (eqb 4) p rs ≡ []
@@ -173,3 +199,35 @@ module _ (s : List ℕ) (h : T (ordered 0 (records s))) where
       number-first b l =
           ap (numberAt s) (sym (add-one (placeOf s b)))
           ∙ number-same s (placeOf s b) (λ e. let two = block-head s b l in absurd (omega (arith, e, two)))
+
+  -- THE LIST of instruction k of a block is that of its number.
+  pub list-in-block :
+      (b : ℕ) → b < length (f .blocks) → (k : ℕ) → k < length (listsOf f b)
+      → getD (listsOf f b) k none ≡ getD (lists f) (length (listsBelow f b) + k) none
+  list-in-block b l k m =
+      let same : 0 + b ≡ b = omega arith in
+      sym (list-within (listsOf f) none k b 0 (length (f .blocks)) l (subst (λ (x : ℕ). k < length (listsOf f x)) (sym same) m)
+      ∙ ap (λ (x : ℕ). getD (listsOf f x) k none) same)
+
+  -- the number behind a block is no higher than the count of instructions
+  pub number-fits : (b : ℕ) → b < length (f .blocks) → numberAt s (placeOf s (suc b)) ≤ length (lists f)
+  number-fits b l =
+      omega (arith, number-place (suc b) l, below-le f (length (f .blocks) - suc b) (suc b) (length (f .blocks)) (omega arith))
+
+-- A list is its row's members in order; where there is none the row is empty.
+pub list-row : (f : Function) (i : ℕ) → orElse [] (getD (lists f) i none) ≡ members (length (f .values)) (listed f i)
+list-row f i = go (isNone (getD (lists f) i none)) refl
+  where
+    empty : (x : Option (List ℕ)) → isNone x ≡ true → orElse [] x ≡ []
+    empty none e = refl
+    empty (some _) e = absurd (subst T (sym e) tt)
+
+    none-kept : (vs : List ℕ) → keep nothing vs ≡ []
+    none-kept [] = refl
+    none-kept (v ∷ vs) = none-kept vs
+
+    go : (b : Bool) → isNone (getD (lists f) i none) ≡ b → orElse [] (getD (lists f) i none) ≡ members (length (f .values)) (listed f i)
+    go true e =
+        empty (getD (lists f) i none) e
+        ∙ sym (ap (members (length (f .values))) (listed-none f i e) ∙ none-kept (upFrom 0 (length (f .values))))
+    go false e = ap (orElse []) (list-members f i e)
