@@ -11,7 +11,6 @@ use Rattle.rules.specs.Tree.{MapEntry, instruction, slotAddress, store, load, j
 use Rattle.rules.specs.Records.{encode, kind, edgeArgument, recordAt, recordCount, records}
 use Rattle.rules.specs.File.{followers, follows, ordered, Section, Cut, cut, ofKind, named, edgeOf, edgesOf, firstEdge, instructionOf, itemOf, opensItem, blockOf, edgeRecords, itemRecords, blockRecords, functionIn}
 use Rattle.rules.specs.Graph.{blockAt}
-use Rattle.rules.specs.declared.EdgeArgument.{EdgeArgument}
 use Rattle.rules.specs.declared.EdgeArgument.the-variants as passes
 use Rattle.rules.specs.declared.Record.{Record}
 use Rattle.rules.specs.declared.Record.the-variants as record′
@@ -20,7 +19,7 @@ use Rattle.lists.specs.Tests.{and-intro, and-right, passes-at}
 use Rattle.lists.specs.Maps.{concatMap-map, concatMap-where}
 use Rattle.lists.specs.Members.{all→∈, getD-∈}
 use Rattle.records.specs.Kinds.{Kinds, kinds-weaken, ofKind-none, cut-closed}
-use Rattle.records.specs.InOrder.{chain, whole, Sections, cut-joins, keptBy, chain-good}
+use Rattle.records.specs.InOrder.{chain, whole, cut-joins, keptBy, chain-good}
 use Rattle.records.specs.Parts.{blockBody, front-parameters, inBody, isInstruction, head-instruction, body-chained, body-allowed, front-edges, block-instructions}
 use Rattle.records.specs.Leading.{leading, leading-cut, parameters-lead}
 use Rattle.graph.specs.Between.{between, between-none, between-more, between-all}

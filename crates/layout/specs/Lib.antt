@@ -6,3 +6,5 @@ pub mod BlockRuns
 pub mod Copied
 pub mod Numbered
 pub mod Planned
+pub mod Laid
+pub mod Sizes

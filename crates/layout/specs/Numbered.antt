@@ -15,7 +15,6 @@ use Rattle.rules.specs.File.{ordered, Cut, cut, instructionOf, functionIn}
 use Rattle.rules.specs.Graph.{blockAt, instructionsOf, reachable}
 use Rattle.rules.specs.Liveness.{process, listsAmong, listsOf, lists}
 use Rattle.rules.specs.declared.Record.{Record}
-use Rattle.lists.specs.Tests.{passes-at}
 use Rattle.lists.specs.Maps.{concatMap-append}
 use Rattle.records.specs.Kinds.{Kinds, kinds-weaken}
 use Rattle.records.specs.Parts.{front-values}
@@ -25,7 +24,7 @@ use Rattle.graph.specs.Placed.{placesOf, placeTable}
 use Rattle.graph.specs.Blocks.{placeOf, place-le, place-less, instructions-by-place}
 use Rattle.listing.specs.Crossings.{listed, upFrom-more}
 use Rattle.listing.specs.Listed.{list-members, listed-none}
-use Rattle.listing.specs.Stepping.{headsFrom, opens, heads-more}
+use Rattle.listing.specs.Stepping.{headsFrom, heads-more}
 use Rattle.layout.specs.BlockRuns.{numberAt, number-same}
 use Rattle.layout.specs.Copied.{block-head}
 

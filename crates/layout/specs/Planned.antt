@@ -10,17 +10,14 @@ use lib.ListN.{length, getD, length-map}
 use lib.Dec.{T, eqb, eqb→eq}
 use Rattle.rules.specs.Lists.{orElse, concatMap, upFrom, zipWith, concatZip}
 use Rattle.rules.specs.Tree.{Item, Instruction, Block, Function}
-use Rattle.rules.specs.Records.{encode, kind, recordAt, recordCount, records}
+use Rattle.rules.specs.Records.{kind, recordAt, recordCount, records}
 use Rattle.rules.specs.File.{ordered, instructionOf, blockOf, itemRecords, blockRecords, functionIn}
-use Rattle.rules.specs.Graph.{blockAt, sizeOf, instructionsOf}
+use Rattle.rules.specs.Graph.{blockAt, sizeOf}
 use Rattle.rules.specs.Liveness.{listsOf, lists, listedInstructions}
 use Rattle.rules.specs.Plan.{InstructionPlan}
 use Rattle.rules.specs.Rewriting.{storeItems, instructionItems, landings, rewrittenBlock}
 use Rattle.rules.specs.declared.Record.{Record}
-use Rattle.rules.specs.declared.Record.the-variants as record′
-use Rattle.lists.specs.Tests.{test-elim, chosen, left-out}
 use Rattle.lists.specs.Maps.{concatMap-append}
-use Rattle.graph.specs.Between.{between}
 use Rattle.graph.specs.Sections.{firstOr, sectionsAt, length-sectionsAt}
 use Rattle.graph.specs.Blocks.{placeOf, sectionOf, place-le, place-less, blockAt-by-place, instructions-by-place}
 use Rattle.numbering.specs.Beside.{instructionPlanAt, instructionPlansAt, blockPlanAt}
@@ -38,9 +35,9 @@ use Rattle.writing.specs.Instructions.{stores-by-place, parameters-by-place, ed
 use Rattle.layout.specs.Instruction.{instructionAt, instruction-by-place}
 use Rattle.layout.specs.Remade.{block-remade}
 use Rattle.layout.specs.Runs.{partsRun, edgesRun, instructionRun}
-use Rattle.layout.specs.BlockRuns.{numberAt, landingPartAt, headRun, instructionIf, instructionPartAt, blockRun, on-kind, off-kind, number-same}
+use Rattle.layout.specs.BlockRuns.{numberAt, landingPartAt, instructionIf, instructionPartAt, blockRun, number-same}
 use Rattle.layout.specs.Copied.{block-head}
-use Rattle.layout.specs.Numbered.{Numbered, numbered-from, listsBelow, length-listsOf, length-block-heads, number-place, list-in-block, list-row}
+use Rattle.layout.specs.Numbered.{Numbered, numbered-from, listsBelow, length-block-heads, number-place, list-in-block, list-row}
 
 -- RUNS THAT AGREE at each place write the same.
 run-same :

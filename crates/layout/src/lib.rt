@@ -2,3 +2,5 @@
 pub mod blocks;
 pub mod entries;
 pub mod instructions;
+pub mod laying;
+pub mod tables;
