@@ -28,10 +28,10 @@ copyAt s i = recordAt s i ∷ []
 
 module _ (s : List ℕ) (k : ℕ) (g : ℕ → List Record) (p : ℕ) where
   -- a record of the kind, or another one
-  pub on-kind : kind (recordAt s p) ≡ k → onKind s k g p ≡ g p
+  on-kind : kind (recordAt s p) ≡ k → onKind s k g p ≡ g p
   on-kind e = chosen (eqb (kind (recordAt s p)) k) (g p) [] (eq→eqb e)
 
-  pub off-kind : (kind (recordAt s p) ≡ k → ⊥) → onKind s k g p ≡ []
+  off-kind : (kind (recordAt s p) ≡ k → ⊥) → onKind s k g p ≡ []
   off-kind h = left-out (eqb (kind (recordAt s p)) k) (g p) [] (not-T (eqb (kind (recordAt s p)) k) (λ t. h (eqb→eq (kind (recordAt s p)) k t)))
 
 module _ (s : List ℕ) (p : ℕ) where

@@ -8,3 +8,4 @@ pub mod Numbered
 pub mod Planned
 pub mod Laid
 pub mod Sizes
+pub mod Whole

@@ -7,6 +7,7 @@ use mathlib.Core.List.{List, [], _∷_, _++_, map}
 use native.Mathlib.Omega.{arith}
 use native.Mathlib.Numerals.{add-one}
 use lib.ListN.{length, getD, length-append, length-map, List·getD-append}
+use lib.Seq.{getD-append-add}
 use lib.Dec.{T, eqb, eqb→eq}
 use Rattle.rules.specs.Lists.{all, keep, isNone, orElse, concatMap, has, upFrom, NumberSet, nothing, members}
 use Rattle.rules.specs.Tree.{Instruction, Function}
@@ -77,17 +78,11 @@ module _ (s : List ℕ) (q : ℕ) (m : q ≤ recordCount s) where
   number-behind-run p l = count-more (q - p) p (omega arith)
 
 -- BLOCK BY BLOCK
-getD-behind : {A : Type 0} (xs ys : List A) (i : ℕ) (d : A) → getD (xs ++ ys) (length xs + i) d ≡ getD ys i d
-getD-behind [] ys i d = let same : 0 + i ≡ i = omega arith in ap (λ (n : ℕ). getD ys n d) same
-getD-behind (x ∷ xs) ys i d =
-    let next : suc (length xs) + i ≡ suc (length xs + i) = omega arith in
-    ap (λ (n : ℕ). getD (x ∷ (xs ++ ys)) n d) next ∙ getD-behind xs ys i d
-
 length-among : (f : Function) (is : List Instruction) (out : NumberSet) → length (listsAmong f is out) ≡ length is
 length-among f [] out = refl
 length-among f (i ∷ is) out = ap suc (length-among f is out)
 
-pub length-listsOf : (f : Function) (b : ℕ) → length (listsOf f b) ≡ length (instructionsOf (blockAt f b))
+length-listsOf : (f : Function) (b : ℕ) → length (listsOf f b) ≡ length (instructionsOf (blockAt f b))
 unfolding listsOf
 length-listsOf f b = go (has b (reachable f))
   where
@@ -133,7 +128,7 @@ list-within g d k (suc j) a (suc n) l m =
     let rest = concatMap g (upFrom (suc a) j) in
     let at : length (g a ++ rest) + k ≡ length (g a) + (length rest + k) = omega (arith, length-append (g a) rest) in
     ap (λ (i : ℕ). getD (g a ++ concatMap g (upFrom (suc a) n)) i d) at
-    ∙ getD-behind (g a) (concatMap g (upFrom (suc a) n)) (length rest + k) d
+    ∙ getD-append-add (g a) (concatMap g (upFrom (suc a) n)) (length rest + k) d
     ∙ list-within g d k j (suc a) n (omega arith) (subst (λ (x : ℕ). k < length (g x)) next m)
     ∙ ap (λ (x : ℕ). getD (g x) k d) (sym next)
 

@@ -1,5 +1,5 @@
 -- A planned block: the rules' tree for it, by the numbers beside its records, is what its runs write.
-use Prim.Native.Nat.{ℕ, zero, suc, _+_, _-_, _<_, _≤_}
+use Prim.Native.Nat.{ℕ, suc, _+_, _<_, _≤_}
 use mathlib.Core.Path.{_≡_, refl, sym, ap, ap₂, _∙_}
 use mathlib.Core.Option.{Option, none, some}
 use mathlib.Core.Bool.{Bool, true, false}
@@ -8,7 +8,7 @@ use native.Mathlib.Omega.{arith}
 use native.Mathlib.Numerals.{add-one}
 use lib.ListN.{length, getD, length-map}
 use lib.Dec.{T, eqb, eqb→eq}
-use Rattle.rules.specs.Lists.{orElse, concatMap, upFrom, zipWith, concatZip}
+use Rattle.rules.specs.Lists.{orElse, concatMap, zipWith, concatZip}
 use Rattle.rules.specs.Tree.{Item, Instruction, Block, Function}
 use Rattle.rules.specs.Records.{kind, recordAt, recordCount, records}
 use Rattle.rules.specs.File.{ordered, instructionOf, blockOf, itemRecords, blockRecords, functionIn}
@@ -27,7 +27,7 @@ use Rattle.writing.specs.declared.edges.EdgePart.the-variants as edge
 use Rattle.writing.specs.declared.parts.Part.the-variants as part
 use Rattle.writing.specs.Parts.{slotIn, itemsRecords}
 use Rattle.writing.specs.Next.{nextPlace, nextPlace-bounds}
-use Rattle.writing.specs.Places.{fromTo}
+use Rattle.writing.specs.Places.{fromTo, fromTo-same}
 use Rattle.writing.specs.Zips.{concatMap-concatZip}
 use Rattle.writing.specs.ByPlace.{onKind, sectionFrom, besideAt, sectioned, sections-by-place}
 use Rattle.writing.specs.Edges.{edgeRecordsOf}
@@ -39,17 +39,7 @@ use Rattle.layout.specs.BlockRuns.{numberAt, landingPartAt, instructionI
 use Rattle.layout.specs.Copied.{block-head}
 use Rattle.layout.specs.Numbered.{Numbered, numbered-from, listsBelow, length-block-heads, number-place, list-in-block, list-row}
 
--- RUNS THAT AGREE at each place write the same.
-run-same :
-    (g h : ℕ → List Record) (n p : ℕ) → ((i : ℕ) → p ≤ i → i < p + n → g i ≡ h i) → concatMap g (upFrom p n) ≡ concatMap h (upFrom p n)
-run-same g h zero p e = refl
-run-same g h (suc n) p e =
-    ap₂ (λ (a b : List Record). a ++ b) (e p (omega arith) (omega arith)) (run-same g h n (suc p) (λ i l m. e i (omega arith) (omega arith)))
-
-pub fromTo-same : (g h : ℕ → List Record) (p q : ℕ) → ((i : ℕ) → p ≤ i → i < q → g i ≡ h i) → fromTo g p q ≡ fromTo h p q
-unfolding fromTo
-fromTo-same g h p q e = run-same g h (q - p) p (λ i l m. e i l (omega arith))
-
+-- what agrees at a record of a kind
 kind-same :
     (s : List ℕ) (k : ℕ) (g h : ℕ → List Record) (i : ℕ) → (kind (recordAt s i) ≡ k → g i ≡ h i) → onKind s k g i ≡ onKind s k h i
 kind-same s k g h i e = go (eqb (kind (recordAt s i)) k) (λ t. e (eqb→eq (kind (recordAt s i)) k t))

@@ -4,3 +4,4 @@ pub mod entries;
 pub mod instructions;
 pub mod laying;
 pub mod tables;
+pub mod whole;
