@@ -3,10 +3,10 @@
 use Prim.Native.Nat.{ℕ, zero, suc, _+_, _-_, _<_, _≤_}
 use mathlib.Core.Path.{_≡_, refl, sym, ap, ap₂, _∙_}
 use mathlib.Core.Bool.{false}
-use mathlib.Core.List.{List, [], _∷_, _++_, map, append-nil, append-assoc}
+use mathlib.Core.List.{List, [], _∷_, _++_, map, append-nil}
 use native.Mathlib.Omega.{arith}
 use native.Mathlib.Numerals.{add-one}
-use lib.ListN.{length, getD, length-append}
+use lib.ListN.{getD}
 use lib.Dec.{eqb, eqb→eq, not-T}
 use Rattle.rules.specs.Lists.{concatMap, zipWith, concatZip}
 use Rattle.rules.specs.Tree.{Edge, Item, jump}
@@ -67,12 +67,18 @@ module _ (s numbers slots : List ℕ) where
   abbrev pub edgeAnd : ℕ → Part → ℕ → ℕ → List Record
   edgeAnd target a p q = record′.Edge target ∷ fromTo (partAt s numbers slots 8 a) p q
 
-  -- a landing
-  unfoldable pub landingAnd : ℕ → ℕ → ℕ → List Record
-  landingAnd number p q =
-      record′.Block false number
-      ∷ (passing part.LandingParameter p q
-      ++ (passing part.PassedLoad p q ++ (record′.Jump ∷ edgeAnd (encode (recordAt s p) .second) part.Landed (p + 1) q)))
+  -- a landing: its block with a parameter for each word; loads, and the jump with its edge
+  abbrev pub landingHead : ℕ → ℕ → ℕ → List Record
+  landingHead number p q = record′.Block false number ∷ passing part.LandingParameter p q
+
+  abbrev pub landingJump : ℕ → ℕ → List Record
+  landingJump p q = record′.Jump ∷ edgeAnd (encode (recordAt s p) .second) part.Landed (p + 1) q
+
+  abbrev pub landingItems : ℕ → ℕ → List Record
+  landingItems p q = passing part.PassedLoad p q ++ landingJump p q
+
+  abbrev pub landingAnd : ℕ → ℕ → ℕ → List Record
+  landingAnd number p q = landingHead number p q ++ landingItems p q
 
   module _ (p q : ℕ) (l : p < q) (m : q ≤ recordCount s) where
     argument : Words → EdgeArgument
@@ -167,7 +173,7 @@ module _ (s numbers slots : List ℕ) where
 
       -- and the landing
       pub landing-some : edgePart edge.Landing p q ≡ landingAnd (getD numbers p 0 - 1) p q
-      unfolding edgeRecordsOf landingAnd argument xs ns
+      unfolding edgeRecordsOf argument xs ns
       landing-some = by-tag edge.Landing ∙ go (getD numbers p 0) h
         where
           items : List Item
@@ -203,34 +209,3 @@ module _ (s numbers slots : List ℕ) where
   edge-other a i q h =
       left-out (eqb (kind (recordAt s i)) 7) (edgePart a i (nextPlace s 7 (suc i) q)) []
       (not-T (eqb (kind (recordAt s i)) 7) (λ t. h (eqb→eq (kind (recordAt s i)) 7 t)))
-
-  -- a landing as it is written, one part behind the other
-  pub landing-joined :
-      (number p q target : ℕ) → target ≡ encode (recordAt s p) .second
-      → ((((record′.Block false number ∷ []) ++ passing part.LandingParameter p q) ++ passing part.PassedLoad p q) ++ (record′.Jump ∷ []))
-      ++ edgeAnd target part.Landed (p + 1) q
-      ≡ landingAnd number p q
-  unfolding landingAnd
-  landing-joined number p q target e =
-      append-assoc (((record′.Block false number ∷ []) ++ passing part.LandingParameter p q) ++ passing part.PassedLoad p q) (record′.Jump ∷ [])
-      (edgeAnd target part.Landed (p + 1) q)
-      ∙ append-assoc ((record′.Block false number ∷ []) ++ passing part.LandingParameter p q) (passing part.PassedLoad p q)
-      (record′.Jump ∷ edgeAnd target part.Landed (p + 1) q)
-      ∙ ap
-      (λ (x : ℕ).
-      record′.Block false number
-      ∷ (passing part.LandingParameter p q ++ (passing part.PassedLoad p q ++ (record′.Jump ∷ edgeAnd x part.Landed (p + 1) q))))
-      e
-
-  pub length-landing :
-      (number p q : ℕ)
-      → length (landingAnd number p q)
-      ≡ length (passing part.LandingParameter p q) + length (passing part.PassedLoad p q) + length (passing part.Landed p q) + 3
-  unfolding landingAnd
-  length-landing number p q =
-      omega (
-        arith,
-        length-append (passing part.LandingParameter p q)
-            (passing part.PassedLoad p q ++ (record′.Jump ∷ edgeAnd (encode (recordAt s p) .second) part.Landed (p + 1) q)),
-        length-append (passing part.PassedLoad p q) (record′.Jump ∷ edgeAnd (encode (recordAt s p) .second) part.Landed (p + 1) q),
-      )

@@ -1,7 +1,7 @@
 -- What a loop over the places of a file writes: at each place some records, one place after the other.
 use Prim.Native.Nat.{ℕ, zero, suc, _+_, _-_, _≤_, _<_}
-use mathlib.Core.Path.{_≡_, refl, sym, ap, _∙_}
-use mathlib.Core.List.{List, [], _∷_, _++_, append-assoc, append-nil}
+use mathlib.Core.Path.{_≡_, refl, sym, ap, ap₂, _∙_}
+use mathlib.Core.List.{List, [], _∷_, _++_, append-nil}
 use native.Mathlib.Omega.{arith}
 use lib.ListN.{length, take, drop, length-append}
 use Rattle.rules.specs.Lists.{concatMap, upFrom}
@@ -45,6 +45,17 @@ unfolding fromTo
 fromTo-more g p q l =
     let more : q - p ≡ suc (q - suc p) = omega arith in
     rw more refl
+
+run-same :
+    (g h : ℕ → List Record) (n p : ℕ) → ((i : ℕ) → p ≤ i → i < p + n → g i ≡ h i) → concatMap g (upFrom p n) ≡ concatMap h (upFrom p n)
+run-same g h zero p e = refl
+run-same g h (suc n) p e =
+    ap₂ (λ (a b : List Record). a ++ b) (e p (omega arith) (omega arith)) (run-same g h n (suc p) (λ i l m. e i (omega arith) (omega arith)))
+
+-- what agrees at each place writes the same
+pub fromTo-same : (g h : ℕ → List Record) (p q : ℕ) → ((i : ℕ) → p ≤ i → i < q → g i ≡ h i) → fromTo g p q ≡ fromTo h p q
+unfolding fromTo
+fromTo-same g h p q e = run-same g h (q - p) p (λ i l m. e i l (omega arith))
 
 module _ (g : ℕ → List Record) (p i : ℕ) (l : p ≤ i) where
   -- one place more

@@ -54,6 +54,10 @@ wrote-as a b q h = rw q at h
 pub length-rest : (x : List ℕ) (r : ℕ) → length (take (length x - r) (drop r x)) ≡ length x - r
 length-rest x r = ap length (take-all (length x - r) (drop r x) (omega (arith, length-drop r x))) ∙ length-drop r x
 
+-- the rest that is lent has room for records that fit behind what is written
+pub lent-room : (x : List ℕ) (at : ℕ) (rs ts : List Record) → rs ≡ ts → at + room ts ≤ length x → room rs ≤ length (take (length x - at) (drop at x))
+lent-room x at rs ts e h = omega (arith, h, ap length e, length-rest x at)
+
 -- FILL THE FRONT, LEND THE REST: a second writer is lent what the first left.
 module _ {e : List ℕ} {b : List Record} {r : ℕ} {x : List ℕ} {c : List Record} {q : ℕ} {y : List ℕ} (h : Wrote e b r x) (l : r ≤ length x) (g : Wrote (take (length x - r) (drop r x)) c q y) where
   front-is : length (bytes b) ≡ r
@@ -84,3 +88,20 @@ module _ {e : List ℕ} {b : List Record} {r : ℕ} {x : List ℕ} {c : List Rec
         long = simp (kept, nothing, append-nil, length-append) (omega (arith, length-bytes b, h .long, h .count, g .long, ap length whole, length-drop r x));
         front = rw (kept, nothing, append-nil, left, both, bytes-append) (sym (append-assoc (bytes b) (bytes c) (drop (room b + room c) e)));
       }
+
+-- ROOM FOR TWO WRITERS, one behind the other: for the first,
+pub first-fits : (b c : List Record) (e : List ℕ) → room (b ++ c) ≤ length e → room b ≤ length e
+first-fits b c e h = omega (arith, h, length-append b c)
+
+module _ {e : List ℕ} {b : List Record} {r : ℕ} {x : List ℕ} (w : Wrote e b r x) (c : List Record) (h : room (b ++ c) ≤ length e) where
+  -- which writes no more than it is lent,
+  pub written-le : r ≤ length x
+  written-le = omega (arith, h, length-append b c, w .count, w .long)
+
+  -- for the second in what is left,
+  pub next-fits : room c ≤ length (take (length x - r) (drop r x))
+  next-fits = omega (arith, h, length-append b c, w .count, w .long, length-rest x r)
+
+  -- and for both together
+  pub both-le : {q : ℕ} {u y : List ℕ} → Wrote u c q y → r + q ≤ length e
+  both-le v = omega (arith, h, length-append b c, w .count, v .count)

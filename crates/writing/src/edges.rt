@@ -3,7 +3,7 @@ ghost use mathlib.Core.Path.{_≡_};
 ghost use Prim.Native.Nat.{_+_, _<_, _≤_};
 ghost use lib.ListN.{length, getD};
 ghost use Rattle.rules.specs.Records.{recordCount};
-ghost use Rattle.writing.specs.Edges.{edgeAnd, landingAnd, edgePart, edgePartAt};
+ghost use Rattle.writing.specs.Edges.{edgeAnd, landingHead, landingJump, landingItems, landingAnd, edgePart, edgePartAt};
 ghost use Rattle.writing.specs.Parts.{Readable};
 ghost use Rattle.writing.specs.Places.{fromTo};
 ghost use Rattle.writing.specs.Wrote.{room, Wrote};
@@ -75,7 +75,84 @@ fn put_edge(s: &[u8], numbers: &[u32], slots: &[u32], p: usize, end: usize, out:
     put_edge_to(s, numbers, slots, tag - 1, Part::Word, p + 1, end, out)
 }
 
-// A landing: its block with a parameter for each word, loads, and the jump with its edge; its cold word is 0.
+// A landing's block with a parameter for each word; its cold word is 0.
+fn put_landing_head(
+    s: &[u8],
+    numbers: &[u32],
+    slots: &[u32],
+    number: u32,
+    p: usize,
+    end: usize,
+    out: &mut [u8],
+) -> usize
+    requires { ⌜ Readable (now s) (now numbers) × (p < end) × (end ≤ recordCount (now s)) × (room (landingHead (now s) (now numbers) (now slots) number p end) ≤ length (now out)) ⌝ }
+    ensures { λ r. ⌜ Wrote (now (out .entry)) (landingHead (now (s .entry)) (now (numbers .entry)) (now (slots .entry)) number p end) r (now (out .exit)) ⌝ }
+{
+    let first = put(
+        out,
+        Record::Block {
+            cold: false,
+            number,
+        },
+    );
+    let rest = put_parts(
+        s,
+        numbers,
+        slots,
+        8,
+        Part::LandingParameter,
+        p + 1,
+        end,
+        &mut out[first..],
+    );
+    first + rest
+}
+
+// A landing's jump with its edge.
+fn put_landing_jump(
+    s: &[u8],
+    numbers: &[u32],
+    slots: &[u32],
+    p: usize,
+    end: usize,
+    out: &mut [u8],
+) -> usize
+    requires { ⌜ Readable (now s) (now numbers) × (p < end) × (end ≤ recordCount (now s)) × (room (landingJump (now s) (now numbers) (now slots) p end) ≤ length (now out)) ⌝ }
+    ensures { λ r. ⌜ Wrote (now (out .entry)) (landingJump (now (s .entry)) (now (numbers .entry)) (now (slots .entry)) p end) r (now (out .exit)) ⌝ }
+{
+    let target = words_of(record_at(s, p)).second;
+    let first = put(out, Record::Jump);
+    let rest = put_edge_to(
+        s,
+        numbers,
+        slots,
+        target,
+        Part::Landed,
+        p + 1,
+        end,
+        &mut out[first..],
+    );
+    first + rest
+}
+
+// What stands in a landing: loads, and the jump.
+fn put_landing_items(
+    s: &[u8],
+    numbers: &[u32],
+    slots: &[u32],
+    p: usize,
+    end: usize,
+    out: &mut [u8],
+) -> usize
+    requires { ⌜ Readable (now s) (now numbers) × (p < end) × (end ≤ recordCount (now s)) × (room (landingItems (now s) (now numbers) (now slots) p end) ≤ length (now out)) ⌝ }
+    ensures { λ r. ⌜ Wrote (now (out .entry)) (landingItems (now (s .entry)) (now (numbers .entry)) (now (slots .entry)) p end) r (now (out .exit)) ⌝ }
+{
+    let first = put_parts(s, numbers, slots, 8, Part::PassedLoad, p + 1, end, out);
+    let rest = put_landing_jump(s, numbers, slots, p, end, &mut out[first..]);
+    first + rest
+}
+
+// A landing.
 fn put_landing_block(
     s: &[u8],
     numbers: &[u32],
@@ -88,49 +165,9 @@ fn put_landing_block(
     requires { ⌜ Readable (now s) (now numbers) × (p < end) × (end ≤ recordCount (now s)) × (room (landingAnd (now s) (now numbers) (now slots) number p end) ≤ length (now out)) ⌝ }
     ensures { λ r. ⌜ Wrote (now (out .entry)) (landingAnd (now (s .entry)) (now (numbers .entry)) (now (slots .entry)) number p end) r (now (out .exit)) ⌝ }
 {
-    let w = words_of(record_at(s, p));
-    let a = put(
-        out,
-        Record::Block {
-            cold: false,
-            number,
-        },
-    );
-    let b = put_parts(
-        s,
-        numbers,
-        slots,
-        8,
-        Part::LandingParameter,
-        p + 1,
-        end,
-        &mut out[a..],
-    );
-    let ab = a + b;
-    let c = put_parts(
-        s,
-        numbers,
-        slots,
-        8,
-        Part::PassedLoad,
-        p + 1,
-        end,
-        &mut out[ab..],
-    );
-    let abc = ab + c;
-    let d = put(&mut out[abc..], Record::Jump);
-    let abcd = abc + d;
-    let e = put_edge_to(
-        s,
-        numbers,
-        slots,
-        w.second,
-        Part::Landed,
-        p + 1,
-        end,
-        &mut out[abcd..],
-    );
-    abcd + e
+    let first = put_landing_head(s, numbers, slots, number, p, end, out);
+    let rest = put_landing_items(s, numbers, slots, p, end, &mut out[first..]);
+    first + rest
 }
 
 // The landing of the edge at a place, where it has one.

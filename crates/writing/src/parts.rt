@@ -42,7 +42,7 @@ pub enum Written {
 }
 
 // The slot of value v, by its tag; 0 where it has none.
-fn slot_of(slots: &[u32], v: u32) -> u32
+pub fn slot_of(slots: &[u32], v: u32) -> u32
     ensures { λ r. ⌜ r ≡ slotIn (now (slots .entry)) v ⌝ }
 {
     let i = v as usize;

@@ -3,8 +3,7 @@ use Rattle.writing.specs.Places.{fromTo}
 use Rattle.writing.specs.Parts.{partAt}
 use mathlib.Core.Path.{refl}
 use native.Mathlib.Omega.{arith}
-use Rattle.writing.proofs.Running.{lent-room}
-use Rattle.writing.specs.Wrote.{wrote-then}
+use Rattle.writing.specs.Wrote.{lent-room, wrote-then}
 use borrow.Author.Needs.{needs}
 use Rattle.writing.proofs.edges.put_edge_to.Statement.{statement}
 use Rattle.writing.proofs.edges.put_edge_to.Tie as tie

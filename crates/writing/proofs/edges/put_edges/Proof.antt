@@ -1,7 +1,6 @@
 -- `writing::edges::put_edges` meets its contract.
 use borrow.Author.Needs.{needs}
-use Rattle.writing.proofs.Running.{lent-room}
-use Rattle.writing.specs.Wrote.{Wrote}
+use Rattle.writing.specs.Wrote.{lent-room, Wrote}
 use Rattle.writing.specs.Places.{fromTo, wrote-start, wrote-turn, turn-room}
 use Rattle.writing.specs.Edges.{edgePartAt}
 use native.Mathlib.Omega.{arith}

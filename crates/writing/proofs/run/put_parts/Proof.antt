@@ -1,7 +1,7 @@
 -- `writing::run::put_parts` meets its contract.
-use Rattle.writing.proofs.Running.{part-here, lent-room}
+use Rattle.writing.proofs.Running.{part-here}
+use Rattle.writing.specs.Wrote.{lent-room, Wrote}
 use borrow.Author.Needs.{needs}
-use Rattle.writing.specs.Wrote.{Wrote}
 use Rattle.writing.specs.Places.{fromTo, wrote-start, wrote-turn, turn-room}
 use Rattle.writing.specs.Parts.{partAt, recordsOf}
 use lib.ListN.{length}

@@ -1,0 +1,11 @@
+pub mod Entries
+pub mod Runs
+pub mod Remade
+pub mod Instruction
+pub mod BlockRuns
+pub mod Copied
+pub mod Numbered
+pub mod Planned
+pub mod Laid
+pub mod Sizes
+pub mod Whole

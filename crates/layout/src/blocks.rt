@@ -1,0 +1,202 @@
+// One block: its record, parameters and their stores, its instructions, and the landings behind it; or the block copied.
+ghost use mathlib.Core.Path.{_≡_};
+ghost use Prim.Native.Nat.{_+_, _*_, _<_, _≤_};
+ghost use lib.ListN.{length};
+ghost use Rattle.rules.specs.Limits.{rowWords};
+ghost use Rattle.rules.specs.Records.{kind, recordAt, recordCount};
+ghost use Rattle.rows.specs.Rows.{rows, rowValues, HasRow};
+ghost use Rattle.writing.specs.Parts.{Readable};
+ghost use Rattle.writing.specs.Places.{fromTo};
+ghost use Rattle.writing.specs.Wrote.{room, Wrote};
+ghost use Rattle.layout.specs.BlockRuns.{numberAt, instructionIf, instructionPartAt, landingPartAt, headRun, blockRun, copyAt};
+use crate::instructions::put_instruction;
+use records::kind_of;
+use records::record_at;
+use writing::edges::EdgePart;
+use writing::edges::put_edges;
+use writing::parts::Part;
+use writing::put::put;
+use writing::run::next_place;
+use writing::run::put_parts;
+
+// What is written for the record at place p, if it starts an instruction, among records that end before place end; the
+// instruction's list is row i.
+fn put_instruction_at(
+    s: &[u8],
+    numbers: &[u32],
+    slots: &[u32],
+    lists: &[u64],
+    values: usize,
+    i: usize,
+    p: usize,
+    end: usize,
+    out: &mut [u8],
+) -> usize
+    requires { ⌜ Readable (now s) (now numbers) × (p < end) × (end ≤ recordCount (now s)) × (kind (recordAt (now s) p) ≡ 4 → HasRow (now lists) i) × (values ≤ rowValues) × (room (instructionIf (now s) (now numbers) (now slots) values (rows (now lists) i) end p) ≤ length (now out)) ⌝ }
+    ensures { λ r. ⌜ Wrote (now (out .entry)) (instructionIf (now (s .entry)) (now (numbers .entry)) (now (slots .entry)) values (rows (now (lists .entry)) i) end p) r (now (out .exit)) ⌝ }
+{
+    if kind_of(record_at(s, p)) == 4 {
+        let next = next_place(s, 4, p + 1, end);
+        return put_instruction(s, numbers, slots, lists, values, i, p, next, out);
+    }
+    0
+}
+
+// The number of the instruction at or behind the next place, from that at or behind place p.
+fn number_behind(s: &[u8], p: usize, number: usize) -> usize
+    requires { ⌜ (p < recordCount (now s)) × (number ≡ numberAt (now s) p) ⌝ }
+    ensures { λ r. ⌜ r ≡ numberAt (now (s .entry)) (p + 1) ⌝ }
+{
+    if kind_of(record_at(s, p)) == 4 {
+        return number + 1;
+    }
+    number
+}
+
+// The instructions from a place on and before place end, the first one first; the number of the first one is given.
+fn put_instructions(
+    s: &[u8],
+    numbers: &[u32],
+    slots: &[u32],
+    lists: &[u64],
+    values: usize,
+    first: usize,
+    from: usize,
+    end: usize,
+    out: &mut [u8],
+) -> usize
+    requires { ⌜ Readable (now s) (now numbers) × (from ≤ end) × (end ≤ recordCount (now s)) × (rowWords * numberAt (now s) end ≤ length (now lists)) × (values ≤ rowValues) × (first ≡ numberAt (now s) from) × (room (fromTo (instructionPartAt (now s) (now numbers) (now slots) values (rows (now lists)) end) from end) ≤ length (now out)) ⌝ }
+    ensures { λ r. ⌜ Wrote (now (out .entry)) (fromTo (instructionPartAt (now (s .entry)) (now (numbers .entry)) (now (slots .entry)) values (rows (now (lists .entry))) end) from end) r (now (out .exit)) ⌝ }
+{
+    let mut at = 0;
+    let mut number = first;
+    let mut p = from;
+    while p < end {
+        let n = put_instruction_at(
+            s,
+            numbers,
+            slots,
+            lists,
+            values,
+            number,
+            p,
+            end,
+            &mut out[at..],
+        );
+        at += n;
+        number = number_behind(s, p, number);
+        p += 1;
+    }
+    at
+}
+
+// The landings of the record at place p, if it starts an instruction, among records that end before place end.
+fn put_landings_at(
+    s: &[u8],
+    numbers: &[u32],
+    slots: &[u32],
+    p: usize,
+    end: usize,
+    out: &mut [u8],
+) -> usize
+    requires { ⌜ Readable (now s) (now numbers) × (p < end) × (end ≤ recordCount (now s)) × (room (landingPartAt (now s) (now numbers) (now slots) end p) ≤ length (now out)) ⌝ }
+    ensures { λ r. ⌜ Wrote (now (out .entry)) (landingPartAt (now (s .entry)) (now (numbers .entry)) (now (slots .entry)) end p) r (now (out .exit)) ⌝ }
+{
+    if kind_of(record_at(s, p)) == 4 {
+        let next = next_place(s, 4, p + 1, end);
+        return put_edges(s, numbers, slots, EdgePart::Landing, p + 1, next, out);
+    }
+    0
+}
+
+// The landings of the instructions from a place on and before place end.
+fn put_landings(
+    s: &[u8],
+    numbers: &[u32],
+    slots: &[u32],
+    from: usize,
+    end: usize,
+    out: &mut [u8],
+) -> usize
+    requires { ⌜ Readable (now s) (now numbers) × (from ≤ end) × (end ≤ recordCount (now s)) × (room (fromTo (landingPartAt (now s) (now numbers) (now slots) end) from end) ≤ length (now out)) ⌝ }
+    ensures { λ r. ⌜ Wrote (now (out .entry)) (fromTo (landingPartAt (now (s .entry)) (now (numbers .entry)) (now (slots .entry)) end) from end) r (now (out .exit)) ⌝ }
+{
+    let mut at = 0;
+    let mut p = from;
+    while p < end {
+        let n = put_landings_at(s, numbers, slots, p, end, &mut out[at..]);
+        at += n;
+        p += 1;
+    }
+    at
+}
+
+// The record of the block at place p, its parameters, and their stores.
+fn put_head(s: &[u8], numbers: &[u32], slots: &[u32], p: usize, end: usize, out: &mut [u8]) -> usize
+    requires { ⌜ Readable (now s) (now numbers) × (p < end) × (end ≤ recordCount (now s)) × (room (headRun (now s) (now numbers) (now slots) p end) ≤ length (now out)) ⌝ }
+    ensures { λ r. ⌜ Wrote (now (out .entry)) (headRun (now (s .entry)) (now (numbers .entry)) (now (slots .entry)) p end) r (now (out .exit)) ⌝ }
+{
+    let from = p + 1;
+    let a = put(out, record_at(s, p));
+    let b = put_parts(
+        s,
+        numbers,
+        slots,
+        3,
+        Part::Parameter,
+        from,
+        end,
+        &mut out[a..],
+    );
+    let ab = a + b;
+    let c = put_parts(s, numbers, slots, 3, Part::Store, from, end, &mut out[ab..]);
+    ab + c
+}
+
+// The block at place p, whose records end before place end, with its landings; the number of its first instruction is given.
+pub fn put_block(
+    s: &[u8],
+    numbers: &[u32],
+    slots: &[u32],
+    lists: &[u64],
+    values: usize,
+    first: usize,
+    p: usize,
+    end: usize,
+    out: &mut [u8],
+) -> usize
+    requires { ⌜ Readable (now s) (now numbers) × (p < end) × (end ≤ recordCount (now s)) × (rowWords * numberAt (now s) end ≤ length (now lists)) × (values ≤ rowValues) × (first ≡ numberAt (now s) (p + 1)) × (room (blockRun (now s) (now numbers) (now slots) values (rows (now lists)) p end) ≤ length (now out)) ⌝ }
+    ensures { λ r. ⌜ Wrote (now (out .entry)) (blockRun (now (s .entry)) (now (numbers .entry)) (now (slots .entry)) values (rows (now (lists .entry))) p end) r (now (out .exit)) ⌝ }
+{
+    let from = p + 1;
+    let a = put_head(s, numbers, slots, p, end, out);
+    let b = put_instructions(
+        s,
+        numbers,
+        slots,
+        lists,
+        values,
+        first,
+        from,
+        end,
+        &mut out[a..],
+    );
+    let ab = a + b;
+    let c = put_landings(s, numbers, slots, from, end, &mut out[ab..]);
+    ab + c
+}
+
+// The records from a place on and before place end, as they are.
+pub fn copy_records(s: &[u8], from: usize, end: usize, out: &mut [u8]) -> usize
+    requires { ⌜ (from ≤ end) × (end ≤ recordCount (now s)) × (room (fromTo (copyAt (now s)) from end) ≤ length (now out)) ⌝ }
+    ensures { λ r. ⌜ Wrote (now (out .entry)) (fromTo (copyAt (now (s .entry))) from end) r (now (out .exit)) ⌝ }
+{
+    let mut at = 0;
+    let mut i = from;
+    while i < end {
+        let n = put(&mut out[at..], record_at(s, i));
+        at += n;
+        i += 1;
+    }
+    at
+}

@@ -1,0 +1,57 @@
+// The map of a safepoint: an entry for each value on its list, ascending.
+ghost use mathlib.Core.Path.{_≡_};
+ghost use mathlib.Core.Bool.{true};
+ghost use Prim.Native.Nat.{_<_, _≤_};
+ghost use lib.ListN.{length};
+ghost use Rattle.rules.specs.Records.{records};
+ghost use Rattle.rules.specs.File.{ordered, functionIn};
+ghost use Rattle.rules.specs.Graph.{sizeOf};
+ghost use Rattle.rows.specs.Rows.{rows, rowValues, HasRow};
+ghost use Rattle.writing.specs.Parts.{slotIn};
+ghost use Rattle.writing.specs.Wrote.{room, Wrote};
+ghost use Rattle.layout.specs.Entries.{entryAt, entriesBelow};
+use records::values::size_of;
+use rows::contains;
+use rules::Record;
+use writing::parts::slot_of;
+use writing::put::put;
+
+// The entry of value v, if it is on the list that row i has.
+fn put_entry_if(s: &[u8], slots: &[u32], lists: &[u64], i: usize, v: usize, out: &mut [u8]) -> usize
+    requires { ⌜ (ordered 0 (records (now s)) ≡ true) × HasRow (now lists) i × (v < rowValues) × (room (entryAt (sizeOf (functionIn (now s))) (slotIn (now slots)) (rows (now lists) i) v) ≤ length (now out)) ⌝ }
+    ensures { λ r. ⌜ Wrote (now (out .entry)) (entryAt (sizeOf (functionIn (now (s .entry)))) (slotIn (now (slots .entry))) (rows (now (lists .entry)) i) v) r (now (out .exit)) ⌝ }
+{
+    if contains(lists, i, v) {
+        let value = v as u32;
+        return put(
+            out,
+            Record::MapEntry {
+                slot: slot_of(slots, value),
+                size: size_of(s, value),
+            },
+        );
+    }
+    0
+}
+
+// The entries of the values below a number that are on the list that row i has.
+pub fn put_entries(
+    s: &[u8],
+    slots: &[u32],
+    lists: &[u64],
+    i: usize,
+    values: usize,
+    out: &mut [u8],
+) -> usize
+    requires { ⌜ (ordered 0 (records (now s)) ≡ true) × HasRow (now lists) i × (values ≤ rowValues) × (room (entriesBelow (sizeOf (functionIn (now s))) (slotIn (now slots)) (rows (now lists) i) values) ≤ length (now out)) ⌝ }
+    ensures { λ r. ⌜ Wrote (now (out .entry)) (entriesBelow (sizeOf (functionIn (now (s .entry)))) (slotIn (now (slots .entry))) (rows (now (lists .entry)) i) values) r (now (out .exit)) ⌝ }
+{
+    let mut at = 0;
+    let mut v = 0;
+    while v < values {
+        let n = put_entry_if(s, slots, lists, i, v, &mut out[at..]);
+        at += n;
+        v += 1;
+    }
+    at
+}
