@@ -1,3 +1,4 @@
 pub mod Added
+pub mod OfFile
 pub mod Weights
 pub mod Totals

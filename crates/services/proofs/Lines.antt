@@ -52,8 +52,7 @@ module _ (s : List ℕ) (n : ℕ) where
   pub program-long : programInput < length s → (refusedBy verdict.TooMany ≡ programAnswer s n) × (replicate n 0 ≡ programBuffer s n)
   unfolding programAnswer programBuffer
   program-long l =
-      let long = sym (lt-ltb programInput (length s) l) in
-      (
+      let long = sym (lt-ltb programInput (length s) l) in (
         ap (λ (b : Bool). elim b as (λ _. RewritingAnswer) [ true ↦ refusedBy verdict.TooMany | false ↦ rewritingAnswer s programPointer n ]) long,
         ap (λ (b : Bool). elim b as (λ _. List ℕ) [ true ↦ replicate n 0 | false ↦ rewritingOutput s programPointer n ]) long,
       )
@@ -63,8 +62,7 @@ module _ (s : List ℕ) (n : ℕ) where
       length s ≤ programInput → (rewritingAnswer s programPointer n ≡ programAnswer s n) × (rewritingOutput s programPointer n ≡ programBuffer s n)
   unfolding programAnswer programBuffer
   program-rewrites l =
-      let short = sym (le-ltb programInput (length s) l) in
-      (
+      let short = sym (le-ltb programInput (length s) l) in (
         ap (λ (b : Bool). elim b as (λ _. RewritingAnswer) [ true ↦ refusedBy verdict.TooMany | false ↦ rewritingAnswer s programPointer n ]) short,
         ap (λ (b : Bool). elim b as (λ _. List ℕ) [ true ↦ replicate n 0 | false ↦ rewritingOutput s programPointer n ]) short,
       )

@@ -100,7 +100,18 @@ fn rewrite_live(
             unchanged: true,
         };
     }
-    rewrite_spilled(s, places, order, index, outs, lists, spilled, found, pointer, out)
+    rewrite_spilled(
+        s,
+        places,
+        order,
+        index,
+        outs,
+        lists,
+        spilled,
+        found,
+        pointer,
+        out,
+    )
 }
 
 // The answer for a file that was surveyed and not refused, with the output cleared.
@@ -128,7 +139,18 @@ fn rewrite_accepted(
         live,
         instructions,
     };
-    rewrite_live(s, places, order, index, &outs, &lists, &spilled, found, pointer, out)
+    rewrite_live(
+        s,
+        places,
+        order,
+        index,
+        &outs,
+        &lists,
+        &spilled,
+        found,
+        pointer,
+        out,
+    )
 }
 
 // The rewritten records at the front of the output, with zeros behind them, and the counts of the answer; zeros alone where

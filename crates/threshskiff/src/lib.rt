@@ -7,9 +7,9 @@ ghost use Rattle.rules.specs.Services.{livenessAnswer, livenessIns, livenessOut
 ghost use Rattle.rules.specs.Services.{rewritingAnswer, rewritingOutput, finalRecords};
 ghost use Rattle.threshskiff.specs.Numbers.{verdictOf, answerOf};
 use acceptance::verdict::refusal_number;
-use services::check::check_file;
 use rules::RewritingAnswer;
 use rules::Verdict;
+use services::check::check_file;
 use services::finals::final_records;
 use services::list::list;
 use services::liveness::liveness;
