@@ -22,12 +22,10 @@ use Rattle.rules.specs.declared.RewritingAnswer.{RewritingAnswer}
 use Rattle.rules.specs.declared.Verdict.the-variants as verdict
 use Rattle.lists.specs.Tests.{is-true, is-false, test-elim}
 use Rattle.lists.specs.Members.{_∈_, not-∈-nil}
-use Rattle.walks.specs.InFile.{blocks-some}
 use Rattle.fixpoint.specs.Finding.{∈-keep, ∈-upFrom}
 use Rattle.fixpoint.specs.Rule.{marked-in-file}
 use Rattle.sharing.specs.Spilled.{spilled-marked}
 use Rattle.agreement.specs.Accepted.{Accepted}
-use Rattle.demand3.specs.Verdicts.{plain}
 use Rattle.graph.specs.Few.{records-few, values-few}
 use Rattle.graph.specs.ByTable.{place-at, places-long}
 use Rattle.rows.specs.Rows.{rows, rowValues, size, size-members, HasRow}
@@ -36,6 +34,7 @@ use Rattle.acceptance.specs.Survey.{accepted-is}
 use Rattle.rewriting.specs.declared.Found.{Found}
 use Rattle.rewriting.specs.Answers.{Outcome, refusedBy, outcome-refused, outcome-accepted, verdict-size, verdict-unchanged, records-unchanged}
 use Rattle.rewriting.specs.Rows.{LiveRows, PointerFine}
+use Rattle.rewriting.specs.Trees.{accepted-tree}
 use Rattle.rewriting.specs.Unspilled.{planned-nothing}
 use Rattle.rewriting.specs.Values.{values-first}
 
@@ -57,15 +56,7 @@ module _ {s places order index outs lists spilled : List ℕ} {found : Found} (h
   in-order = h .tables .walked .given .inOrder
 
   pub tree : Accepted f
-  tree =
-      let a = accepted-is s (h .tables .accepted) in
-      record {
-        some-block = blocks-some (records s) in-order;
-        numbered = a .readable .numbered;
-        in-file = a .readable .inFile;
-        is-sound = a .isSound;
-        plain = plain (records s) in-order;
-      }
+  tree = accepted-tree s (h .tables .accepted)
 
   pub values-small : length (f .values) ≤ rowValues
   values-small = values-few s (accepted-is s (h .tables .accepted) .readable .few)
