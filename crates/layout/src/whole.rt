@@ -1,9 +1,11 @@
 // The whole rewritten function, from the file and the tables that planning leaves: values, slots, blocks.
-ghost use Prim.Native.Nat.{_≤_};
+ghost use Prim.Native.Nat.{ℕ, _≤_};
 ghost use lib.ListN.{length};
+ghost use Rattle.rules.specs.File.{functionRecords, functionIn};
+ghost use Rattle.rules.specs.Rewriting.{rewritten};
 ghost use Rattle.rows.specs.Rows.{rows};
 ghost use Rattle.writing.specs.Wrote.{room, Wrote};
-ghost use Rattle.layout.specs.Whole.{FunctionTables, functionRun};
+ghost use Rattle.layout.specs.Whole.{FunctionTables, functionRun, PlanTables};
 use crate::blocks::copy_records;
 use crate::laying::put_blocks;
 use crate::tables::put_new_values;
@@ -17,8 +19,8 @@ pub struct Counts {
     pub slots: usize,
 }
 
-// Answers how many bytes are written. That they are the rewritten function's, where the tables are those of a plan, says
-// `function-written` of specs/Whole.antt.
+// Writes what the tables say, and answers how many bytes that takes; where they are the tables of a plan, that is the
+// rewritten function.
 pub fn write_function(
     s: &[u8],
     places: &[usize],
@@ -33,6 +35,7 @@ pub fn write_function(
 ) -> usize
     requires { ⌜ FunctionTables (now s) (now places) (now index) (now numbers) (now lists) (now «new_sizes») (now «slot_sizes») counts × (room (functionRun (now s) (now places) (now numbers) (now slots) (rows (now lists)) (now «new_sizes») (now «slot_sizes») counts) ≤ length (now out)) ⌝ }
     ensures { λ r. ⌜ Wrote (now (out .entry)) (functionRun (now (s .entry)) (now (places .entry)) (now (numbers .entry)) (now (slots .entry)) (rows (now (lists .entry))) (now («new_sizes» .entry)) (now («slot_sizes» .entry)) counts) r (now (out .exit)) ⌝ }
+    ensures { λ r. ⌜ ((pointer : ℕ) → PlanTables (now (s .entry)) (now (numbers .entry)) (now (slots .entry)) (now (lists .entry)) (now («new_sizes» .entry)) (now («slot_sizes» .entry)) counts pointer → Wrote (now (out .entry)) (functionRecords (rewritten (functionIn (now (s .entry))) pointer)) r (now (out .exit))) ⌝ }
 {
     let values = counts.values;
     let blocks = counts.blocks;

@@ -1,14 +1,15 @@
 -- `layout::whole::write_function` meets its contract.
-use Rattle.layout.specs.Whole.{functionRun}
+use Rattle.layout.specs.Whole.{functionRun, function-written}
 use Rattle.layout.specs.Sizes.{newValueAt, slotAt, values-inside}
 use Rattle.layout.specs.Laid.{blockPartAt}
 use Rattle.layout.specs.BlockRuns.{copyAt}
 use Rattle.rows.specs.Rows.{rows}
 use Rattle.writing.specs.Places.{fromTo}
-use Rattle.writing.specs.Wrote.{first-fits, written-le, next-fits, both-le, wrote-then}
+use Rattle.writing.specs.Wrote.{first-fits, written-le, next-fits, both-le, wrote-then, wrote-as}
 use Rattle.rules.specs.declared.Record.{Record}
 use mathlib.Core.List.{List, _++_}
 use native.Mathlib.Omega.{arith}
+use mathlib.Core.Path.{sym}
 use borrow.Author.Needs.{needs}
 use Rattle.layout.proofs.whole.write_function.Statement.{statement}
 use Rattle.layout.proofs.whole.write_function.Tie as tie
@@ -236,7 +237,7 @@ returns c =
     let w2 = wrote-then w1 (written-le w1 b2 h2) (c .before .before .before .before .before .before .before .before .before .before .put-new-values .ensures) in
     let w3 = wrote-then w2 (written-le w2 b3 h3) (c .before .before .before .before .before .before .put-slots .ensures) in
     let w4 = wrote-then w3 (written-le w3 b4 h4) (c .before .before .put-blocks .ensures) in
-    w4
+    (w4, λ pointer plan. wrote-as _ _ (sym (function-written (c .before .before .before .before .before .before .before .before .before .before .before .before .before .before .before .before .before .before .before .before .before .before .before .before .before .pre .0) pointer plan)) w4)
 
 pub write-function-spec : {M : Type 1} → statement M
 write-function-spec =
