@@ -1,0 +1,45 @@
+-- STEPS WITH THEIR NUMBERS. A part of planning changes numbers only beside the records of an area, and what is read there
+-- afterwards is what the rules answer. So parts whose areas are apart compose.
+use Prim.Native.Nat.{ℕ, _<_, _≤_}
+use mathlib.Core.Path.{_≡_, _∙_}
+use mathlib.Core.Bool.{Bool}
+use mathlib.Core.List.{List}
+use lib.ListN.{length, getD}
+use lib.Dec.{T}
+use Rattle.rules.specs.Tree.{Function}
+use Rattle.rules.specs.Records.{kind, recordAt}
+use Rattle.rules.specs.Plan.{Plan, Planning}
+use Rattle.planning.specs.Standing.{Tables, planOf, Kept}
+
+-- the places from p on and before q, of records of these kinds
+abbrev pub Within : List ℕ → (ℕ → Bool) → ℕ → ℕ → ℕ → Type 0
+Within s which p q i = (p ≤ i) × (i < q) × T (which (kind (recordAt s i)))
+
+-- nothing is noted in an area
+abbrev pub Blank : (ℕ → Type 0) → List ℕ → Type 0
+Blank area numbers = (i : ℕ) → area i → getD numbers i 0 ≡ 0
+
+-- numbers are the same beside every place that is not in the area
+abbrev pub SameBut : (ℕ → Type 0) → List ℕ → List ℕ → Type 0
+SameBut area numbers numbers′ = (i : ℕ) → (area i → ⊥) → getD numbers′ i 0 ≡ getD numbers i 0
+
+-- A STEP that needs room for n records, with the numbers that it notes
+pub record Noted (f : Function) (area : ℕ → Type 0) {A : Type 0} (read : List ℕ → A) (m : Planning A) (n : ℕ) (t : Tables) (numbers : List ℕ) (t′ : Tables) (numbers′ : List ℕ) : Type 0 where
+  pub answer : _≡_ {A = A × Plan} (read numbers′, planOf f t′) (m (planOf f t))
+  pub same : SameBut area numbers numbers′
+  pub kept : Kept f n t t′
+  pub long : length numbers′ ≡ length numbers
+
+-- what is noted in one area leaves another blank, if they are apart
+pub blank-kept :
+    (a b : ℕ → Type 0) (numbers numbers′ : List ℕ) → ((i : ℕ) → b i → a i → ⊥) → SameBut a numbers numbers′ → Blank b numbers
+    → Blank b numbers′
+blank-kept a b numbers numbers′ apart same blank i h = same i (apart i h) ∙ blank i h
+
+-- an area in a larger one
+pub same-wider : (a b : ℕ → Type 0) (numbers numbers′ : List ℕ) → ((i : ℕ) → a i → b i) → SameBut a numbers numbers′ → SameBut b numbers numbers′
+same-wider a b numbers numbers′ inside same i out = same i (λ h. out (inside i h))
+
+-- one step's numbers behind another's
+pub same-then : (a : ℕ → Type 0) (ns ms ks : List ℕ) → SameBut a ns ms → SameBut a ms ks → SameBut a ns ks
+same-then a ns ms ks one two i out = two i out ∙ one i out

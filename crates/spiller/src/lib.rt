@@ -1,0 +1,1 @@
+// `SafepointSpiller`: slots and numbers for landings, instructions, blocks and a whole function, over lent tables.
