@@ -1,15 +1,17 @@
 -- STEPS WITH THEIR NUMBERS. A part of planning changes numbers only beside the records of an area, and what is read there
 -- afterwards is what the rules answer. So parts whose areas are apart compose.
-use Prim.Native.Nat.{ℕ, _<_, _≤_}
+use Prim.Native.Nat.{ℕ, _+_, _<_, _≤_}
 use mathlib.Core.Path.{_≡_, _∙_}
 use mathlib.Core.Bool.{Bool}
 use mathlib.Core.List.{List}
+use native.Mathlib.Omega.{arith}
 use lib.ListN.{length, getD}
 use lib.Dec.{T}
+use Rattle.rules.specs.Limits.{largestRecords, largestBlocks}
 use Rattle.rules.specs.Tree.{Function}
 use Rattle.rules.specs.Records.{kind, recordAt}
 use Rattle.rules.specs.Plan.{Plan, Planning}
-use Rattle.planning.specs.Standing.{Tables, planOf, Kept}
+use Rattle.planning.specs.Standing.{Tables, planOf, Good, Kept}
 
 -- the places from p on and before q, of records of these kinds
 abbrev pub Within : List ℕ → (ℕ → Bool) → ℕ → ℕ → ℕ → Type 0
@@ -23,11 +25,17 @@ Blank area numbers = (i : ℕ) → area i → getD numbers i 0 ≡ 0
 abbrev pub SameBut : (ℕ → Type 0) → List ℕ → List ℕ → Type 0
 SameBut area numbers numbers′ = (i : ℕ) → (area i → ⊥) → getD numbers′ i 0 ≡ getD numbers i 0
 
+-- room for n records more, each of which may make a block
+pub record Able (f : Function) (t : Tables) (n : ℕ) : Type 0 where
+  pub good : Good f t n
+  pub fewBlocks : t .progress .blocks + n ≤ largestBlocks + largestRecords
+
 -- A STEP that needs room for n records, with the numbers that it notes
 pub record Noted (f : Function) (area : ℕ → Type 0) {A : Type 0} (read : List ℕ → A) (m : Planning A) (n : ℕ) (t : Tables) (numbers : List ℕ) (t′ : Tables) (numbers′ : List ℕ) : Type 0 where
   pub answer : _≡_ {A = A × Plan} (read numbers′, planOf f t′) (m (planOf f t))
   pub same : SameBut area numbers numbers′
   pub kept : Kept f n t t′
+  pub blocks : t′ .progress .blocks ≤ t .progress .blocks + n
   pub long : length numbers′ ≡ length numbers
 
 -- what is noted in one area leaves another blank, if they are apart
@@ -43,3 +51,9 @@ same-wider a b numbers numbers′ inside same i out = same i (λ h. out (inside 
 -- one step's numbers behind another's
 pub same-then : (a : ℕ → Type 0) (ns ms ks : List ℕ) → SameBut a ns ms → SameBut a ms ks → SameBut a ns ks
 same-then a ns ms ks one two i out = two i out ∙ one i out
+
+-- the room that a step leaves
+pub able-then :
+    (f : Function) (t t′ : Tables) (n k : ℕ) → Kept f n t t′ → t′ .progress .blocks ≤ t .progress .blocks + n → Able f t (n + k)
+    → Able f t′ k
+able-then f t t′ n k kept blocks able = record { good = kept .good k (able .good); fewBlocks = omega (arith, able .fewBlocks) }

@@ -24,6 +24,7 @@ use Rattle.numbering.specs.Beside.{made, tag, made-tag, madeAt, madesBetween}
 use Rattle.planning.specs.Standing.{Tables, planOf, Kept, mark, Walked}
 use Rattle.planning.specs.Operands.{useAt, defineAt}
 use Rattle.planning.specs.Marks.{marks, Beside, uses-beside, edge-uses-beside, definitions-beside}
+use Rattle.spiller.specs.BlocksMade.{NoBlocks, each-blocks, use-blocks, edge-use-blocks, definition-blocks}
 use Rattle.spiller.specs.Noted.{Within, Blank, SameBut, Noted}
 
 -- a number noted beside one place
@@ -125,8 +126,8 @@ module _ (s : List ℕ) (pointer k start end : ℕ) (up : start ≤ end) (inFile
   pub run-noted :
       (m : Planning (List Made)) → length (m (planOf f t) .0) ≡ length (ofKind k (between s start end))
       → planOf f t′ ≡ m (planOf f t) .1 → numbers′ ≡ marks (places (eqb k) start (between s start end)) (m (planOf f t) .0) numbers
-      → Kept f (end - start) t t′ → length numbers′ ≡ length numbers → Run m
-  run-noted m many state noted kept long =
+      → m (planOf f t) .1 .blocks ≡ planOf f t .blocks → Kept f (end - start) t t′ → length numbers′ ≡ length numbers → Run m
+  run-noted m many state noted few kept long =
       let ms = m (planOf f t) .0 in
       let read : madesBetween s numbers′ k start end ≡ ms =
       ap (λ (ns : List ℕ). madesBetween s ns k start end) noted
@@ -135,26 +136,27 @@ module _ (s : List ℕ) (pointer k start end : ℕ) (up : start ≤ end) (inFile
         answer = λ i. (read i, state i);
         same = λ i out. ap (λ (ns : List ℕ). getD ns i 0) noted ∙ marks-other s k (end - start) start end (omega arith) inFile ms numbers i out;
         kept = kept;
+        blocks = omega (arith, ap (λ (x : Plan). x .blocks) state, few);
         long = long;
       }
 
   beside-noted :
-      {A : Type 0} (h : A → Planning Made) (pick : Words → A) → Beside s pointer k start end up inFile t t′ numbers numbers′ (forEach h (map pick (ofKind k (between s start end))))
+      {A : Type 0} (h : A → Planning Made) (pick : Words → A) → NoBlocks h → Beside s pointer k start end up inFile t t′ numbers numbers′ (forEach h (map pick (ofKind k (between s start end))))
       → Kept f (end - start) t t′ → length numbers′ ≡ length numbers → Run (forEach h (map pick (ofKind k (between s start end))))
-  beside-noted h pick b kept long =
+  beside-noted h pick few b kept long =
       run-noted (forEach h (map pick (ofKind k (between s start end))))
       (length-each h (map pick (ofKind k (between s start end))) (planOf f t) ∙ length-map (ofKind k (between s start end)) pick)
-      (b .state) (b .noted) kept long
+      (b .state) (b .noted) (each-blocks h few (map pick (ofKind k (between s start end))) (planOf f t)) kept long
 
   -- of uses, of edge arguments, and of definitions
   pub uses-noted : k ≢ 8 → Walked f (useAt s pointer k) start (end - start) t numbers t′ numbers′ → Run (forEach (planUse f pointer) (named k (between s start end)))
   uses-noted other walked =
-      beside-noted (planUse f pointer) (λ w. w .second) (uses-beside s pointer k start end up inFile t t′ numbers numbers′ other walked) (walked .kept) (walked .long)
+      beside-noted (planUse f pointer) (λ w. w .second) (use-blocks f pointer) (uses-beside s pointer k start end up inFile t t′ numbers numbers′ other walked) (walked .kept) (walked .long)
 
   pub edge-uses-noted : k ≡ 8 → Walked f (useAt s pointer k) start (end - start) t numbers t′ numbers′ → Run (forEach (planEdgeUse f pointer) (map argument (ofKind k (between s start end))))
   edge-uses-noted eight walked =
-      beside-noted (planEdgeUse f pointer) argument (edge-uses-beside s pointer k start end up inFile t t′ numbers numbers′ eight walked) (walked .kept) (walked .long)
+      beside-noted (planEdgeUse f pointer) argument (edge-use-blocks f pointer) (edge-uses-beside s pointer k start end up inFile t t′ numbers numbers′ eight walked) (walked .kept) (walked .long)
 
   pub definitions-noted : k ≢ 8 → Walked f (defineAt s pointer k) start (end - start) t numbers t′ numbers′ → Run (forEach (planDefinition f pointer) (named k (between s start end)))
   definitions-noted other walked =
-      beside-noted (planDefinition f pointer) (λ w. w .second) (definitions-beside s pointer k start end up inFile t t′ numbers numbers′ other walked) (walked .kept) (walked .long)
+      beside-noted (planDefinition f pointer) (λ w. w .second) (definition-blocks f pointer) (definitions-beside s pointer k start end up inFile t t′ numbers numbers′ other walked) (walked .kept) (walked .long)

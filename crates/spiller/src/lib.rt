@@ -1,1 +1,2 @@
 // `SafepointSpiller`: slots and numbers for landings, instructions, blocks and a whole function, over lent tables.
+pub mod landings;

@@ -1,0 +1,121 @@
+// Rule 2 for an edge of a safepoint: if it passes a spilled value it gets a landing block.
+ghost use mathlib.Core.Path.{_≡_};
+ghost use mathlib.Core.List.{[], _∷_};
+ghost use Prim.Native.Nat.{suc, _+_, _-_, _<_, _≤_};
+ghost use lib.ListN.{length};
+ghost use lib.Dec.{T, eqb};
+ghost use Rattle.rules.specs.Records.{encode, recordAt, recordCount, records};
+ghost use Rattle.rules.specs.File.{functionIn};
+ghost use Rattle.rules.specs.Liveness.{isSpilled};
+ghost use Rattle.rules.specs.Plan.{planLanding, planSafepointEdge};
+ghost use Rattle.graph.specs.Between.{between};
+ghost use Rattle.graph.specs.Tables.{Given};
+ghost use Rattle.numbering.specs.Beside.{edgePlanAt};
+ghost use Rattle.planning.specs.Standing.{tables, Good, Walked};
+ghost use Rattle.planning.specs.Operands.{Reading, Range};
+ghost use Rattle.spiller.specs.Landed.{isWord, landedAt};
+ghost use Rattle.spiller.specs.Landings.{edgeKind, edgeAt, EdgeRecords};
+ghost use Rattle.spiller.specs.Noted.{Within, Blank, Able, Noted};
+ghost use Rattle.spiller.specs.Passing.{passing};
+use planning::Progress;
+use planning::operands::Operand;
+use planning::operands::among;
+use planning::operands::operand_at;
+use planning::steps::plan_use;
+use records::record_at;
+use records::values::size_of;
+use records::values::words_from;
+use records::words_of;
+
+// Whether the record at a place is an edge argument that is a returned or an exception word.
+fn is_word(s: &[u8], place: usize) -> bool
+    requires { ⌜ place < recordCount (now s) ⌝ }
+    ensures { λ r. ⌜ r ≡ isWord (encode (recordAt (now (s .entry)) place)) ⌝ }
+{
+    let w = words_of(record_at(s, place));
+    w.kind == 8 && w.second != 0
+}
+
+// One record of an edge that gets a landing: an argument's value is loaded there if it is spilled, and a word becomes a
+// parameter, as large as the parameter of the target that stands as far behind place first as this record behind start.
+fn plan_landed(
+    s: &[u8],
+    spilled: &[u64],
+    first: usize,
+    start: usize,
+    place: usize,
+    asked: &mut [u64],
+    steps: &mut [u32],
+    sizes: &mut [u32],
+    numbers: &mut [u32],
+    p: Progress,
+) -> Progress
+    requires { ⌜ Reading (now s) (now spilled) × (start ≤ place) × (place < recordCount (now s)) × (place < length (now numbers)) × (first ≤ recordCount (now s)) × Good (functionIn (now s)) (tables (now asked) (now steps) (now sizes) p) 1 ⌝ }
+    ensures { λ r. ⌜ Walked (functionIn (now (s .entry))) (landedAt (now (s .entry)) (p .pointer) start first) place 1 (tables (now (asked .entry)) (now (steps .entry)) (now (sizes .entry)) p) (now (numbers .entry)) (tables (now (asked .exit)) (now (steps .exit)) (now (sizes .exit)) r) (now (numbers .exit)) ⌝ }
+{
+    if is_word(s, place) {
+        let w = words_from(s, first + (place - start));
+        let next = p.made;
+        sizes[next] = size_of(s, w.second);
+        numbers[place] = (p.given + next + 1) as u32;
+        return Progress {
+            pointer: p.pointer,
+            given: p.given,
+            made: next + 1,
+            blocks: p.blocks,
+            steps: p.steps,
+        };
+    }
+    plan_use(s, spilled, 8, place, asked, steps, sizes, numbers, p)
+}
+
+// Those from a place on and before place end.
+fn plan_all_landed(
+    s: &[u8],
+    spilled: &[u64],
+    first: usize,
+    start: usize,
+    end: usize,
+    asked: &mut [u64],
+    steps: &mut [u32],
+    sizes: &mut [u32],
+    numbers: &mut [u32],
+    p: Progress,
+) -> Progress
+    requires { ⌜ Reading (now s) (now spilled) × Range (now s) (now numbers) start end × (first ≤ recordCount (now s)) × Good (functionIn (now s)) (tables (now asked) (now steps) (now sizes) p) (end - start) ⌝ }
+    ensures { λ r. ⌜ Walked (functionIn (now (s .entry))) (landedAt (now (s .entry)) (p .pointer) start first) start (end - start) (tables (now (asked .entry)) (now (steps .entry)) (now (sizes .entry)) p) (now (numbers .entry)) (tables (now (asked .exit)) (now (steps .exit)) (now (sizes .exit)) r) (now (numbers .exit)) ⌝ }
+{
+    let mut done = p;
+    let mut i = start;
+    while i < end {
+        done = plan_landed(s, spilled, first, start, i, asked, steps, sizes, numbers, done);
+        i += 1;
+    }
+    done
+}
+
+// Whether the record at a place is an edge argument that is a spilled value.
+fn passes_at(s: &[u8], spilled: &[u64], place: usize) -> bool
+    requires { ⌜ Reading (now s) (now spilled) × (place < recordCount (now s)) ⌝ }
+    ensures { λ r. ⌜ r ≡ passing (isSpilled (functionIn (now (s .entry)))) (recordAt (now (s .entry)) place ∷ []) ⌝ }
+{
+    match among(spilled, operand_at(s, 8, place)) {
+        Operand::Value(_) => true,
+        Operand::Nothing => false,
+    }
+}
+
+// Whether one from a place on and before place end is.
+fn passes_spilled(s: &[u8], spilled: &[u64], start: usize, end: usize) -> bool
+    requires { ⌜ Reading (now s) (now spilled) × (start ≤ end) × (end ≤ recordCount (now s)) ⌝ }
+    ensures { λ r. ⌜ r ≡ passing (isSpilled (functionIn (now (s .entry)))) (between (now (s .entry)) start end) ⌝ }
+{
+    let mut i = start;
+    while i < end {
+        if passes_at(s, spilled, i) {
+            return true;
+        }
+        i += 1;
+    }
+    false
+}
