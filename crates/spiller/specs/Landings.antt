@@ -24,13 +24,16 @@ use Rattle.records.specs.Parts.{second, argument}
 use Rattle.records.specs.Values.{record-there}
 use Rattle.graph.specs.Between.{between, between-none, between-more}
 use Rattle.graph.specs.Blocks.{placeOf, bodyAt, place-le, place-less, blockAt-parameters, block-body}
+use Rattle.graph.specs.ByTable.{places-long, place-at, end-le, start-less}
+use Rattle.graph.specs.Tables.{Given}
 use Rattle.numbering.specs.Beside.{made, madesBetween, edgePlanAt}
 use Rattle.planning.specs.declared.Progress.{Progress}
-use Rattle.planning.specs.Standing.{Tables, tables, planOf, Known, Kept, Walked}
+use Rattle.planning.specs.Operands.{Range}
+use Rattle.planning.specs.Standing.{Tables, tables, planOf, Known, Good, Kept, Walked}
 use Rattle.planning.specs.Walking.{kept-more}
 use Rattle.spiller.specs.BlocksMade.{landed-blocks}
 use Rattle.spiller.specs.Landed.{parameterAt, landedAt, zipped, ranLanded, walk-landed}
-use Rattle.spiller.specs.Noted.{Within, Blank, Noted}
+use Rattle.spiller.specs.Noted.{Within, Blank, Able, Noted}
 use Rattle.spiller.specs.ReadBack.{run-noted}
 
 -- the kinds of an edge's records that numbers stand beside
@@ -49,6 +52,10 @@ pub record EdgeRecords (s : List ℕ) (place end : ℕ) : Type 0 where
   pub target : edgeAt s place end .target < length (functionIn s .blocks)
   pub leads : ofKind 8 (between s (suc place) end) ≡ leading 8 (between s (suc place) end)
   pub fits : length (ofKind 8 (between s (suc place) end)) ≤ length (blockAt (functionIn s) (edgeAt s place end .target) .parameters)
+
+-- its arguments are among them
+pub argument-in : (s : List ℕ) (place end i : ℕ) → Within s (eqb 8) (suc place) end i → Within s edgeKind place end i
+argument-in s place end i w = (omega (arith, w .0), w .1, subst (λ (j : ℕ). T (edgeKind j)) (eqb→eq 8 (kind (recordAt s i)) (w .2)) tt)
 
 -- records at the front, by place
 leading-at :
@@ -152,10 +159,6 @@ module _ (s : List ℕ) (order : T (ordered 0 (records s))) (place end : ℕ) (e
   abbrev tagged : List ℕ
   tagged = set numbers place (p .blocks + 1)
 
-  -- arguments are the edge's records
-  argument-in : (i : ℕ) → Within s (eqb 8) (suc place) end i → Within s edgeKind place end i
-  argument-in i w = (omega (arith, w .0), w .1, subst (λ (j : ℕ). T (edgeKind j)) (eqb→eq 8 (kind (recordAt s i)) (w .2)) tt)
-
   module _ (t : Tables) (numbers′ : List ℕ) (first : ℕ) (behind : first ≡ suc (placeOf s (edge .target)))
       (walked : Walked f (landedAt s (p .pointer) (suc place) first) (suc place) (end - suc place) after tagged t numbers′) where
     arguments-noted :
@@ -178,14 +181,14 @@ module _ (s : List ℕ) (order : T (ordered 0 (records s))) (place end : ℕ) (e
         (planOf f after, tagged)
         ∙ ap (λ (q : ℕ). ranLanded s (p .pointer) start first start (between s start q) parameters (planOf f after, tagged)) whole in
         run-noted s (p .pointer) 8 start end few (e .inFile) after t tagged numbers′
-        (λ i w. getD-set-other numbers place i (p .blocks + 1) 0 (λ h. omega (arith, h, w .0)) ∙ blank i (argument-in i w))
+        (λ i w. getD-set-other numbers place i (p .blocks + 1) 0 (λ h. omega (arith, h, w .0)) ∙ blank i (argument-in s place end i w))
         (omega (arith, length-set numbers place (p .blocks + 1)))
         (forEach (λ m. m) (zipped s (p .pointer) (edge .arguments) parameters))
         (zipped-length s (p .pointer) (edge .arguments) parameters (planOf f after) (omega (arith, e .fits, long)) ∙ long)
         (ap (λ (x : Plan × List ℕ). x .0) ran) (ap (λ (x : Plan × List ℕ). x .1) ran)
         (zipped-blocks s (p .pointer) (edge .arguments) parameters (planOf f after)) (walked .kept) (walked .long)
 
-    pub landing-noted : Noted f (Within s edgeKind place end) (λ ns. edgePlanAt s ns place end) (planLanding f (p .pointer) edge) (end - place) before numbers t numbers′
+    landing-noted : Noted f (Within s edgeKind place end) (λ ns. edgePlanAt s ns place end) (planLanding f (p .pointer) edge) (end - place) before numbers t numbers′
     landing-noted =
         let few = e .inside in
         let a = arguments-noted in
@@ -200,10 +203,38 @@ module _ (s : List ℕ) (order : T (ordered 0 (records s))) (place end : ℕ) (e
               ∙ ap (λ (n : ℕ). steps′ (record { slots = planOf f before .slots; values = planOf f before .values; blocks = n })) (add-one (p .blocks)));
           same =
               λ i out.
-              a .same i (λ w. out (argument-in i w))
+              a .same i (λ w. out (argument-in s place end i w))
               ∙ getD-set-other numbers place i (p .blocks + 1) 0
               (λ h. out (omega (arith, h), omega (arith, h), subst (λ (j : ℕ). T (edgeKind j)) (sym (ap (λ (x : ℕ). kind (recordAt s x)) h ∙ e .head)) tt));
           kept = subst (λ (n : ℕ). Kept f n before t) count (kept-more f 1 (end - suc place) before after t (kept-block f asked steps sizes p opened refl refl refl refl) (a .kept));
           blocks = omega (arith, a .blocks);
           long = a .long ∙ length-set numbers place (p .blocks + 1);
         }
+
+  -- the same by the code's sum
+  pub landing-done :
+      (t : Tables) (numbers′ : List ℕ) (first : ℕ) → first ≡ suc (placeOf s (edge .target))
+      → Walked f (landedAt s (p .pointer) (place + 1) first) (place + 1) (end - (place + 1)) after tagged t numbers′
+      → Noted f (Within s edgeKind place end) (λ ns. edgePlanAt s ns place end) (planLanding f (p .pointer) edge) (end - place) before numbers t numbers′
+  landing-done t numbers′ first behind walked =
+      landing-noted t numbers′ first behind
+      (subst (λ (n : ℕ). Walked f (landedAt s (p .pointer) n first) n (end - n) after tagged t numbers′) (add-one place) walked)
+
+  -- room for the arguments
+  pub arguments-ready : Able f before (end - place) → Range s tagged (place + 1) end × Good f after (end - (place + 1))
+  arguments-ready able =
+      let few = e .inside in
+      let count : end - place ≡ 1 + (end - (place + 1)) = omega arith in
+      (record { up = omega arith; inFile = e .inFile; inNumbers = omega (arith, length-set numbers place (p .blocks + 1)) },
+      kept-block f asked steps sizes p opened refl refl refl refl .good (end - (place + 1)) (subst (Good f before) count (able .good)))
+
+-- the first parameter of a target stands behind its record
+pub first-parameter :
+    (s places : List ℕ) (given : Given s places) (place end : ℕ) (e : EdgeRecords s place end) (w : Words) → w ≡ encode (recordAt s place)
+    → (w .second < length places) × (getD places (w .second) 0 + 1 ≤ recordCount s) × (getD places (w .second) 0 + 1 ≡ suc (placeOf s (edgeAt s place end .target)))
+first-parameter s places given place end e w is =
+    let same : w .second ≡ edgeAt s place end .target = ap (λ (x : Words). x .second) is in
+    let inside : w .second < length (functionIn s .blocks) = omega (arith, same, e .target) in
+    (omega (arith, places-long s places given),
+    omega (arith, start-less s places given (w .second) inside, end-le s places given (w .second) inside),
+    add-one (getD places (w .second) 0) ∙ ap suc (place-at s places given (w .second) ∙ ap (placeOf s) same))

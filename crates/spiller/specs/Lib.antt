@@ -4,3 +4,6 @@ pub mod ReadBack
 pub mod Landed
 pub mod Landings
 pub mod Passing
+pub mod Spans
+pub mod Stable
+pub mod SafepointEdges

@@ -1,17 +1,18 @@
 -- STEPS WITH THEIR NUMBERS. A part of planning changes numbers only beside the records of an area, and what is read there
 -- afterwards is what the rules answer. So parts whose areas are apart compose.
 use Prim.Native.Nat.{ℕ, _+_, _<_, _≤_}
-use mathlib.Core.Path.{_≡_, _∙_}
+use mathlib.Core.Path.{_≡_, refl, sym, ap, ap₂, _∙_}
 use mathlib.Core.Bool.{Bool}
-use mathlib.Core.List.{List}
+use mathlib.Core.List.{List, [], _∷_, _++_}
 use native.Mathlib.Omega.{arith}
 use lib.ListN.{length, getD}
 use lib.Dec.{T}
 use Rattle.rules.specs.Limits.{largestRecords, largestBlocks}
 use Rattle.rules.specs.Tree.{Function}
 use Rattle.rules.specs.Records.{kind, recordAt}
-use Rattle.rules.specs.Plan.{Plan, Planning}
+use Rattle.rules.specs.Plan.{Plan, Planning, forEach}
 use Rattle.planning.specs.Standing.{Tables, planOf, Good, Kept}
+use Rattle.planning.specs.Walking.{good-less, kept-none, kept-more}
 
 -- the places from p on and before q, of records of these kinds
 abbrev pub Within : List ℕ → (ℕ → Bool) → ℕ → ℕ → ℕ → Type 0
@@ -52,8 +53,42 @@ same-wider a b numbers numbers′ inside same i out = same i (λ h. out (inside 
 pub same-then : (a : ℕ → Type 0) (ns ms ks : List ℕ) → SameBut a ns ms → SameBut a ms ks → SameBut a ns ks
 same-then a ns ms ks one two i out = two i out ∙ one i out
 
+-- room for more is room for fewer
+pub able-less : (f : Function) (t : Tables) (n k : ℕ) → k ≤ n → Able f t n → Able f t k
+able-less f t n k l able = record { good = good-less f t n k l (able .good); fewBlocks = omega (arith, able .fewBlocks) }
+
 -- the room that a step leaves
 pub able-then :
     (f : Function) (t t′ : Tables) (n k : ℕ) → Kept f n t t′ → t′ .progress .blocks ≤ t .progress .blocks + n → Able f t (n + k)
     → Able f t′ k
 able-then f t t′ n k kept blocks able = record { good = kept .good k (able .good); fewBlocks = omega (arith, able .fewBlocks) }
+
+-- nothing is made
+pub noted-none :
+    (f : Function) (area : ℕ → Type 0) {A : Type 0} (read : List ℕ → A) (m : Planning A) (n : ℕ) (t : Tables) (numbers : List ℕ)
+    → _≡_ {A = A × Plan} (read numbers, planOf f t) (m (planOf f t)) → Noted f area read m n t numbers t numbers
+noted-none f area read m n t numbers e =
+    record { answer = e; same = λ i out. refl; kept = kept-none f n t; blocks = omega arith; long = refl }
+
+-- A STEP MORE for a list, from what the steps for its front have left: they are apart, and what the front has noted is
+-- read as before.
+module _ (f : Function) (area now all : ℕ → Type 0) {A B : Type 0} (k : A → Planning B) (xs : List A) (x : A) (read : List ℕ → List B) (one : List ℕ → B) where
+  pub noted-more :
+      (n m : ℕ) (t u w : Tables) (ns ms ks : List ℕ) → Noted f area read (forEach k xs) n t ns u ms → Noted f now one (k x) m u ms w ks
+      → ((i : ℕ) → area i → all i) → ((i : ℕ) → now i → all i) → read ks ≡ read ms
+      → Noted f all (λ numbers. read numbers ++ (one numbers ∷ [])) (forEach k (xs ++ (x ∷ []))) (n + m) t ns w ks
+  noted-more n m t u w ns ms ks a b front next still =
+      record {
+        answer =
+            ap₂ (λ (ys : List B) (y : B × Plan). (ys ++ (y .0 ∷ []), y .1)) still (b .answer)
+            ∙ ap (λ (y : List B × Plan). (y .0 ++ (k x (y .1) .0 ∷ []), k x (y .1) .1)) (a .answer)
+            ∙ sym (each-more xs (planOf f t));
+        same = λ i out. b .same i (λ h. out (next i h)) ∙ a .same i (λ h. out (front i h));
+        kept = kept-more f n m t u w (a .kept) (b .kept);
+        blocks = omega (arith, a .blocks, b .blocks);
+        long = b .long ∙ a .long;
+      }
+    where
+      each-more : (ys : List A) (p : Plan) → forEach k (ys ++ (x ∷ [])) p ≡ (let r = forEach k ys p in (r .0 ++ (k x (r .1) .0 ∷ []), k x (r .1) .1))
+      each-more [] p = refl
+      each-more (y ∷ ys) p = ap (λ (r : List B × Plan). (k y p .0 ∷ r .0, r .1)) (each-more ys (k y p .1))
