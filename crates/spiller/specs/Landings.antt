@@ -224,9 +224,10 @@ module _ (s : List ℕ) (order : T (ordered 0 (records s))) (place end : ℕ) (e
   pub arguments-ready : Able f before (end - place) → Range s tagged (place + 1) end × Good f after (end - (place + 1))
   arguments-ready able =
       let few = e .inside in
-      let count : end - place ≡ 1 + (end - (place + 1)) = omega arith in
-      (record { up = omega arith; inFile = e .inFile; inNumbers = omega (arith, length-set numbers place (p .blocks + 1)) },
-      kept-block f asked steps sizes p opened refl refl refl refl .good (end - (place + 1)) (subst (Good f before) count (able .good)))
+      let count : end - place ≡ 1 + (end - (place + 1)) = omega arith in (
+        record { up = omega arith; inFile = e .inFile; inNumbers = omega (arith, length-set numbers place (p .blocks + 1)) },
+        kept-block f asked steps sizes p opened refl refl refl refl .good (end - (place + 1)) (subst (Good f before) count (able .good)),
+      )
 
 -- the first parameter of a target stands behind its record
 pub first-parameter :
@@ -234,7 +235,8 @@ pub first-parameter :
     → (w .second < length places) × (getD places (w .second) 0 + 1 ≤ recordCount s) × (getD places (w .second) 0 + 1 ≡ suc (placeOf s (edgeAt s place end .target)))
 first-parameter s places given place end e w is =
     let same : w .second ≡ edgeAt s place end .target = ap (λ (x : Words). x .second) is in
-    let inside : w .second < length (functionIn s .blocks) = omega (arith, same, e .target) in
-    (omega (arith, places-long s places given),
-    omega (arith, start-less s places given (w .second) inside, end-le s places given (w .second) inside),
-    add-one (getD places (w .second) 0) ∙ ap suc (place-at s places given (w .second) ∙ ap (placeOf s) same))
+    let inside : w .second < length (functionIn s .blocks) = omega (arith, same, e .target) in (
+      omega (arith, places-long s places given),
+      omega (arith, start-less s places given (w .second) inside, end-le s places given (w .second) inside),
+      add-one (getD places (w .second) 0) ∙ ap suc (place-at s places given (w .second) ∙ ap (placeOf s) same),
+    )

@@ -6,4 +6,4 @@ pub mod Landings
 pub mod Passing
 pub mod Spans
 pub mod Stable
-pub mod SafepointEdges
+pub mod Edges

@@ -108,10 +108,11 @@ module _ (s : List ℕ) where
           × (edgePlaces s p (firstOr q (placeIf b p (edgePlaces s (suc p) q))) ≡ [])
       go true b bounds h =
           (λ _. sym (eqb→eq 7 (kind (recordAt s p)) (subst T b tt)), ap (places (eqb 7) p) (between-none s p))
-      go false b bounds h =
-          (h .0,
-          ap (places (eqb 7) p) (between-more s p later (omega (arith, bounds .0)) (omega (arith, bounds .1)))
-          ∙ ap (λ (o : Bool). placeIf o p (edgePlaces s (suc p) later)) (sym b) ∙ h .1)
+      go false b bounds h = (
+        h .0,
+        ap (places (eqb 7) p) (between-more s p later (omega (arith, bounds .0)) (omega (arith, bounds .1)))
+            ∙ ap (λ (o : Bool). placeIf o p (edgePlaces s (suc p) later)) (sym b) ∙ h .1,
+      )
 
   pub next-is-edge : (p q : ℕ) → p ≤ q → q ≤ recordCount s → nextEdgePlace s p q < q → kind (recordAt s (nextEdgePlace s p q)) ≡ 7
   next-is-edge p q l m = next-from (q - p) p q (omega arith) m .0

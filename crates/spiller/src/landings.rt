@@ -1,4 +1,5 @@
 // Rule 2 for an edge of a safepoint: if it passes a spilled value it gets a landing block.
+ghost use mathlib.Core.Bool.{true};
 ghost use mathlib.Core.Path.{_≡_};
 ghost use mathlib.Core.List.{[], _∷_};
 ghost use Prim.Native.Nat.{suc, _+_, _-_, _<_, _≤_};
@@ -17,9 +18,7 @@ ghost use Rattle.spiller.specs.Landed.{isWord, landedAt};
 ghost use Rattle.spiller.specs.Landings.{edgeKind, edgeAt, EdgeRecords};
 ghost use Rattle.spiller.specs.Noted.{Within, Blank, Able, Noted};
 ghost use Rattle.spiller.specs.Passing.{passing};
-ghost use Rattle.spiller.specs.SafepointEdges.{EdgeNoted, EdgesIn, EdgesNoted};
-ghost use Rattle.spiller.specs.Spans.{nextEdgePlace};
-use graph::edges::next_edge;
+ghost use Rattle.spiller.specs.Edges.{EdgeNoted};
 use planning::Progress;
 use planning::operands::Operand;
 use planning::operands::among;
@@ -91,7 +90,18 @@ fn plan_all_landed(
     let mut done = p;
     let mut i = start;
     while i < end {
-        done = plan_landed(s, spilled, first, start, i, asked, steps, sizes, numbers, done);
+        done = plan_landed(
+            s,
+            spilled,
+            first,
+            start,
+            i,
+            asked,
+            steps,
+            sizes,
+            numbers,
+            done,
+        );
         i += 1;
     }
     done
@@ -150,11 +160,22 @@ fn plan_landing(
         blocks,
         steps: p.steps,
     };
-    plan_all_landed(s, spilled, first, place + 1, end, asked, steps, sizes, numbers, opened)
+    plan_all_landed(
+        s,
+        spilled,
+        first,
+        place + 1,
+        end,
+        asked,
+        steps,
+        sizes,
+        numbers,
+        opened,
+    )
 }
 
 // An edge of a safepoint.
-fn plan_safepoint_edge(
+pub fn plan_safepoint_edge(
     s: &[u8],
     places: &[usize],
     spilled: &[u64],
@@ -167,48 +188,21 @@ fn plan_safepoint_edge(
     p: Progress,
 ) -> Progress
     requires { ⌜ Reading (now s) (now spilled) × Given (now s) (now places) × EdgeRecords (now s) place end × (end ≤ length (now numbers)) × Blank (Within (now s) edgeKind place end) (now numbers) × Able (functionIn (now s)) (tables (now asked) (now steps) (now sizes) p) (end - place) ⌝ }
-    ensures { λ r. ⌜ EdgeNoted (now (s .entry)) (p .pointer) place end (tables (now (asked .entry)) (now (steps .entry)) (now (sizes .entry)) p) (now (numbers .entry)) (tables (now (asked .exit)) (now (steps .exit)) (now (sizes .exit)) r) (now (numbers .exit)) ⌝ }
+    ensures { λ r. ⌜ EdgeNoted (now (s .entry)) (p .pointer) true place end (tables (now (asked .entry)) (now (steps .entry)) (now (sizes .entry)) p) (now (numbers .entry)) (tables (now (asked .exit)) (now (steps .exit)) (now (sizes .exit)) r) (now (numbers .exit)) ⌝ }
 {
     if passes_spilled(s, spilled, place + 1, end) {
-        return plan_landing(s, places, spilled, place, end, asked, steps, sizes, numbers, p);
+        return plan_landing(
+            s,
+            places,
+            spilled,
+            place,
+            end,
+            asked,
+            steps,
+            sizes,
+            numbers,
+            p,
+        );
     }
     p
-}
-
-// The place of the first edge from a place on and before place end, or end.
-fn next_edge_place(s: &[u8], from: usize, end: usize) -> usize
-    requires { ⌜ (from ≤ end) × (end ≤ recordCount (now s)) ⌝ }
-    ensures { λ r. ⌜ r ≡ nextEdgePlace (now (s .entry)) from end ⌝ }
-{
-    let e = next_edge(s, from, end);
-    if e.tag == 0 {
-        return end;
-    }
-    e.behind - 1
-}
-
-// The edges of a safepoint, from a place on and before place end.
-pub fn plan_safepoint_edges(
-    s: &[u8],
-    places: &[usize],
-    spilled: &[u64],
-    start: usize,
-    end: usize,
-    asked: &mut [u64],
-    steps: &mut [u32],
-    sizes: &mut [u32],
-    numbers: &mut [u32],
-    p: Progress,
-) -> Progress
-    requires { ⌜ Reading (now s) (now spilled) × Given (now s) (now places) × Range (now s) (now numbers) start end × EdgesIn (now s) start end × Blank (Within (now s) edgeKind start end) (now numbers) × Able (functionIn (now s)) (tables (now asked) (now steps) (now sizes) p) (end - start) ⌝ }
-    ensures { λ r. ⌜ EdgesNoted (now (s .entry)) (p .pointer) start end (tables (now (asked .entry)) (now (steps .entry)) (now (sizes .entry)) p) (now (numbers .entry)) (tables (now (asked .exit)) (now (steps .exit)) (now (sizes .exit)) r) (now (numbers .exit)) ⌝ }
-{
-    let mut done = p;
-    let mut i = next_edge_place(s, start, end);
-    while i < end {
-        let next = next_edge_place(s, i + 1, end);
-        done = plan_safepoint_edge(s, places, spilled, i, next, asked, steps, sizes, numbers, done);
-        i = next;
-    }
-    done
 }

@@ -1,2 +1,3 @@
 // `SafepointSpiller`: slots and numbers for landings, instructions, blocks and a whole function, over lent tables.
+pub mod edges;
 pub mod landings;

@@ -1,4 +1,4 @@
-use Rattle.spiller.specs.SafepointEdges.{edge-landed, edge-unlanded}
+use Rattle.spiller.specs.Edges.{edge-landed, edge-unlanded}
 use mathlib.Core.Path.{sym, _∙_}
 use borrow.Author.Needs.{needs}
 use Rattle.spiller.proofs.landings.plan_safepoint_edge.Statement.{statement}
