@@ -33,6 +33,11 @@ use Rattle.planning.specs.Walking.{newValues-more, next-value, walked-some}
 use Rattle.planning.specs.Marks.{marks}
 use Rattle.lists.specs.Tests.{eqb-same}
 
+-- the members of a list behind its first
+abbrev pub behindFirst : List Words → List Words
+behindFirst [] = []
+behindFirst (w ∷ ws) = ws
+
 -- an edge argument that is a returned or an exception word
 abbrev pub isWord : Words → Bool
 isWord w = eqb (w .kind) 8 && not (eqb (w .second) 0)
@@ -174,10 +179,6 @@ module _ (s : List ℕ) (pointer start first : ℕ) where
   marks-none : (ps : List ℕ) (numbers : List ℕ) → marks ps [] numbers ≡ numbers
   marks-none [] numbers = refl
   marks-none (p ∷ ps) numbers = refl
-
-  abbrev behindFirst : List Words → List Words
-  behindFirst [] = []
-  behindFirst (w ∷ ws) = ws
 
   pub walk-landed :
       (n place : ℕ) → start ≤ place → place + n ≤ recordCount s → (ps : List ℕ)

@@ -7,3 +7,5 @@ pub mod Passing
 pub mod Spans
 pub mod Stable
 pub mod Edges
+pub mod Parted
+pub mod Instructions
