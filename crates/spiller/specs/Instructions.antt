@@ -177,3 +177,11 @@ module _ (s : List ℕ) (pointer place end a b : ℕ) (x : Parted s (suc place) 
           blocks = omega (arith, d .blocks, u .blocks, e .blocks, still);
           long = u .long ∙ e .long ∙ d .long;
         }
+
+-- by whether it is a safepoint
+module _ (s : List ℕ) (pointer : ℕ) (safepoint : Bool) (list : List ℕ) (place end : ℕ) (t t′ : Tables) (ns ms : List ℕ) where
+  pub noted-listed : safepoint ≡ true → InstructionNoted s pointer (some list) place end t ns t′ ms → InstructionNoted s pointer (listIf safepoint list) place end t ns t′ ms
+  noted-listed e h = subst (λ (b : Bool). InstructionNoted s pointer (listIf b list) place end t ns t′ ms) (sym e) h
+
+  pub noted-unlisted : safepoint ≡ false → InstructionNoted s pointer none place end t ns t′ ms → InstructionNoted s pointer (listIf safepoint list) place end t ns t′ ms
+  noted-unlisted e h = subst (λ (b : Bool). InstructionNoted s pointer (listIf b list) place end t ns t′ ms) (sym e) h

@@ -9,3 +9,4 @@ pub mod Stable
 pub mod Edges
 pub mod Parted
 pub mod Instructions
+pub mod InstructionSteps

@@ -1,7 +1,7 @@
 -- STEPS WITH THEIR NUMBERS. A part of planning changes numbers only beside the records of an area, and what is read there
 -- afterwards is what the rules answer. So parts whose areas are apart compose.
 use Prim.Native.Nat.{ℕ, _+_, _<_, _≤_}
-use mathlib.Core.Path.{_≡_, refl, sym, ap, ap₂, _∙_}
+use mathlib.Core.Path.{_≡_, refl, sym, ap, ap₂, subst, _∙_}
 use mathlib.Core.Bool.{Bool}
 use mathlib.Core.List.{List, [], _∷_, _++_}
 use native.Mathlib.Omega.{arith}
@@ -92,3 +92,36 @@ module _ (f : Function) (area now all : ℕ → Type 0) {A B : Type 0} (k : A �
       each-more : (ys : List A) (p : Plan) → forEach k (ys ++ (x ∷ [])) p ≡ (let r = forEach k ys p in (r .0 ++ (k x (r .1) .0 ∷ []), k x (r .1) .1))
       each-more [] p = refl
       each-more (y ∷ ys) p = ap (λ (r : List B × Plan). (k y p .0 ∷ r .0, r .1)) (each-more ys (k y p .1))
+
+-- WHAT A STEP ASKS FOR: room for n records, and places for numbers up to place q, with none in its area
+pub record Ready (f : Function) (area : ℕ → Type 0) (q n : ℕ) (t : Tables) (numbers : List ℕ) : Type 0 where
+  pub able : Able f t n
+  pub blank : Blank area numbers
+  pub long : q ≤ length numbers
+
+-- the rest of an area
+infixl 20 _without_
+abbrev pub _without_ : (ℕ → Type 0) → (ℕ → Type 0) → ℕ → Type 0
+_without_ all area i = all i × (area i → ⊥)
+
+-- what is left for the next steps
+pub ready-then :
+    (f : Function) (all area : ℕ → Type 0) {A : Type 0} (read : List ℕ → A) (m : Planning A) (q n k total : ℕ) (t t′ : Tables) (numbers numbers′ : List ℕ)
+    → n + k ≡ total → Ready f all q total t numbers → Noted f area read m n t numbers t′ numbers′ → Ready f (all without area) q k t′ numbers′
+ready-then f all area read m q n k total t t′ numbers numbers′ sum ready noted =
+    record {
+      able = able-then f t t′ n k (noted .kept) (noted .blocks) (subst (λ (x : ℕ). Able f t x) (sym sum) (ready .able));
+      blank = λ i h. noted .same i (h .1) ∙ ready .blank i (h .0);
+      long = omega (arith, ready .long, noted .long);
+    }
+
+-- the same for less
+pub ready-less :
+    (f : Function) (all area : ℕ → Type 0) (q r n k : ℕ) (t : Tables) (numbers : List ℕ) → ((i : ℕ) → area i → all i) → r ≤ q → k ≤ n
+    → Ready f all q n t numbers → Ready f area r k t numbers
+ready-less f all area q r n k t numbers inside short fewer ready =
+    record {
+      able = able-less f t n k fewer (ready .able);
+      blank = λ i h. ready .blank i (inside i h);
+      long = omega (arith, ready .long);
+    }

@@ -5,6 +5,7 @@ use mathlib.Core.Path.{_≡_, refl, sym, ap, ap₂, subst, _∙_}
 use mathlib.Core.Bool.{Bool, true, false, not, _&&_}
 use mathlib.Core.List.{List, [], _∷_, _++_, map, append-nil}
 use native.Mathlib.Omega.{arith}
+use native.Mathlib.Numerals.{add-one}
 use lib.ListN.{length}
 use lib.Dec.{T, eqb, eqb→eq}
 use borrow.Author.Tests.{eq-eqb, ne-eqb}
@@ -83,17 +84,20 @@ module _ (s : List ℕ) (k : ℕ) where
       go true b leads later =
           let next : p + suc (length (leading k rs)) ≡ suc p + length (leading k rs) = omega arith in
           let x = later (ap behindFirst leads) in
-          rw next
-          (x .0,
-          subst (Kinds (λ j. eqb j k)) (sym (between-more s p (suc p + length (leading k rs)) (omega arith) (omega (arith, x .0))))
-          (and-intro (eqb (kind (recordAt s p)) k) (all (λ r. eqb (kind r) k) (between s (suc p) (suc p + length (leading k rs)))) (subst T b tt) (x .1)),
-          x .2)
+          rw next (
+            x .0,
+            subst (Kinds (λ j. eqb j k)) (sym (between-more s p (suc p + length (leading k rs)) (omega arith) (omega (arith, x .0))))
+                (and-intro (eqb (kind (recordAt s p)) k) (all (λ r. eqb (kind r) k) (between s (suc p) (suc p + length (leading k rs)))) (subst T b tt) (x .1)),
+            x .2,
+          )
       go false b leads later =
           let here : p + 0 ≡ p = omega arith in
-          rw here
-          (omega arith, subst (Kinds (λ j. eqb j k)) (sym (between-none s p)) tt,
-          ap (ofKind k) (between-more s p q (omega arith) l)
-          ∙ ap (λ (o : Bool). elim o as (λ _. List Words) [ true ↦ encode (recordAt s p) ∷ ofKind k rs | false ↦ ofKind k rs ]) (sym b) ∙ leads)
+          rw here (
+            omega arith,
+            subst (Kinds (λ j. eqb j k)) (sym (between-none s p)) tt,
+            ap (ofKind k) (between-more s p q (omega arith) l)
+                ∙ ap (λ (o : Bool). elim o as (λ _. List Words) [ true ↦ encode (recordAt s p) ∷ ofKind k rs | false ↦ ofKind k rs ]) (sym b) ∙ leads,
+          )
 
   pub run-parts :
       (p q : ℕ) → p ≤ q → q ≤ recordCount s → ofKind k (between s p q) ≡ leading k (between s p q)
@@ -176,7 +180,7 @@ module _ (s : List ℕ) (place end : ℕ) (l : place < end) (m : end ≤ recordC
       wider i = passes-at (λ j. has j (4 ∷ 6 ∷ 5 ∷ [])) (4 ∷ 6 ∷ []) tt i
 
   -- An instruction's records are so.
-  pub instruction-parted : Parted s start end a b
+  instruction-parted : Parted s start end a b
   instruction-parted =
       let second = run-parts s 5 a end (first .1) m results-lead in
       record {
@@ -189,6 +193,13 @@ module _ (s : List ℕ) (place end : ℕ) (l : place < end) (m : end ≤ recordC
         results = second .2;
         noResults = second .3;
       }
+
+  -- the same by what a loop finds
+  pub parted-by : (c d : ℕ) → c ≡ runEnd s 6 (place + 1) end → d ≡ runEnd s 5 c end → Parted s start end c d
+  parted-by c d first′ second′ =
+      let same : c ≡ a = first′ ∙ ap (λ (n : ℕ). runEnd s 6 n end) (add-one place) in
+      let then : d ≡ b = second′ ∙ ap (λ (n : ℕ). runEnd s 5 n end) same in
+      subst (λ (n : ℕ). Parted s start end n d) (sym same) (subst (λ (n : ℕ). Parted s start end a n) (sym then) instruction-parted)
 
 -- WHERE EACH KIND STANDS
 module _ (s : List ℕ) (start end a b : ℕ) (x : Parted s start end a b) where
