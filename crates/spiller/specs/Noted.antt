@@ -10,7 +10,7 @@ use lib.Dec.{T}
 use Rattle.rules.specs.Limits.{largestRecords, largestBlocks}
 use Rattle.rules.specs.Tree.{Function}
 use Rattle.rules.specs.Records.{kind, recordAt}
-use Rattle.rules.specs.Plan.{Plan, Planning, forEach}
+use Rattle.rules.specs.Plan.{Plan, Planning, forEach, forEachBackward}
 use Rattle.planning.specs.Standing.{Tables, planOf, Good, Kept}
 use Rattle.planning.specs.Walking.{good-less, kept-none, kept-more}
 
@@ -124,4 +124,21 @@ ready-less f all area q r n k t numbers inside short fewer ready =
       able = able-less f t n k fewer (ready .able);
       blank = λ i h. ready .blank i (inside i h);
       long = omega (arith, ready .long);
+    }
+
+-- A STEP MORE in front of a list, the last one first
+pub noted-before :
+    (f : Function) (area now all : ℕ → Type 0) {A B : Type 0} (k : A → Planning B) (x : A) (xs : List A) (one : List ℕ → B) (read : List ℕ → List B)
+    (n m : ℕ) (t u w : Tables) (ns ms ks : List ℕ) → Noted f area read (forEachBackward k xs) n t ns u ms → Noted f now one (k x) m u ms w ks
+    → ((i : ℕ) → area i → all i) → ((i : ℕ) → now i → all i) → read ks ≡ read ms
+    → Noted f all (λ numbers. one numbers ∷ read numbers) (forEachBackward k (x ∷ xs)) (n + m) t ns w ks
+noted-before f area now all {A} {B} k x xs one read n m t u w ns ms ks a b back next still =
+    record {
+      answer =
+          ap₂ (λ (ys : List B) (y : B × Plan). (y .0 ∷ ys, y .1)) still (b .answer)
+          ∙ ap (λ (y : List B × Plan). (k x (y .1) .0 ∷ y .0, k x (y .1) .1)) (a .answer);
+      same = λ i out. b .same i (λ h. out (next i h)) ∙ a .same i (λ h. out (back i h));
+      kept = kept-more f n m t u w (a .kept) (b .kept);
+      blocks = omega (arith, a .blocks, b .blocks);
+      long = b .long ∙ a .long;
     }

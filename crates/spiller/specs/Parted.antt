@@ -108,7 +108,7 @@ module _ (s : List ℕ) (k : ℕ) where
       (omega arith, x .0, x .1, x .2)
 
 -- a chain goes on behind records of one kind
-chain-past :
+pub chain-past :
     (k : ℕ) (inside : ℕ → Bool) → T (inside k) → (j : ℕ) (xs ys : List Record) → T (inside j) → Kinds (λ i. eqb i k) xs → T (chain j (xs ++ ys))
     → (i : ℕ) × T (inside i) × T (chain i ys)
 chain-past k inside own j [] ys h kinds c = (j, h, c)
@@ -127,12 +127,17 @@ kinds-none k (r ∷ rs) e = go (eqb (kind r) k) e (kinds-none k rs)
     go true e later = absurd (omega (arith, ap length e))
     go false e later = later e
 
-places-none : (k p : ℕ) (rs : List Record) → ofKind k rs ≡ [] → places (eqb k) p rs ≡ []
+pub places-none : (k p : ℕ) (rs : List Record) → ofKind k rs ≡ [] → places (eqb k) p rs ≡ []
 places-none k p rs e = empty-by (places (eqb k) p rs) (length-places k p rs ∙ ap length e)
   where
     empty-by : (ps : List ℕ) → length ps ≡ 0 → ps ≡ []
     empty-by [] h = refl
     empty-by (x ∷ ps) h = absurd (omega (arith, h))
+
+-- records of one kind are of no other
+pub ofKind-other : (k j : ℕ) → T (not (eqb j k)) → (rs : List Record) → Kinds (λ i. eqb i j) rs → ofKind k rs ≡ []
+ofKind-other k j other rs kinds =
+    ofKind-none k rs (kinds-weaken (λ i. eqb i j) (λ i. not (eqb i k)) (λ i e. subst (λ (n : ℕ). T (not (eqb n k))) (sym (eqb→eq i j e)) other) rs kinds)
 
 -- THE THREE RUNS: arguments before place a, results before place b.
 pub record Parted (s : List ℕ) (start end a b : ℕ) : Type 0 where
@@ -203,11 +208,6 @@ module _ (s : List ℕ) (place end : ℕ) (l : place < end) (m : end ≤ recordC
 
 -- WHERE EACH KIND STANDS
 module _ (s : List ℕ) (start end a b : ℕ) (x : Parted s start end a b) where
-  -- a record of one kind is of no other
-  only : (k j : ℕ) → T (not (eqb j k)) → (rs : List Record) → Kinds (λ i. eqb i j) rs → ofKind k rs ≡ []
-  only k j other rs kinds =
-      ofKind-none k rs (kinds-weaken (λ i. eqb i j) (λ i. not (eqb i k)) (λ i e. subst (λ (n : ℕ). T (not (eqb n k))) (sym (eqb→eq i j e)) other) rs kinds)
-
   front : between s start end ≡ between s start a ++ between s a end
   front =
       let low = x .low in
@@ -236,7 +236,7 @@ module _ (s : List ℕ) (start end a b : ℕ) (x : Parted s start end a b) where
   pub results-there : ofKind 5 (between s start end) ≡ ofKind 5 (between s a b)
   results-there =
       ap (ofKind 5) front ∙ ofKind-append 5 (between s start a) (between s a end)
-      ∙ ap₂ (λ (ws vs : List Words). ws ++ vs) (only 5 6 tt (between s start a) (x .arguments))
+      ∙ ap₂ (λ (ws vs : List Words). ws ++ vs) (ofKind-other 5 6 tt (between s start a) (x .arguments))
       (ap (ofKind 5) back ∙ ofKind-append 5 (between s a b) (between s b end)
       ∙ ap (λ (ws : List Words). ofKind 5 (between s a b) ++ ws) (x .noResults) ∙ append-nil (ofKind 5 (between s a b)))
 
@@ -245,7 +245,7 @@ module _ (s : List ℕ) (start end a b : ℕ) (x : Parted s start end a b) where
       let middle = x .middle in
       let high = x .high in
       places-parted s (eqb 5) start a end (x .low) (omega arith) (x .inFile)
-      ∙ ap₂ (λ (ps qs : List ℕ). ps ++ qs) (places-none 5 start (between s start a) (only 5 6 tt (between s start a) (x .arguments)))
+      ∙ ap₂ (λ (ps qs : List ℕ). ps ++ qs) (places-none 5 start (between s start a) (ofKind-other 5 6 tt (between s start a) (x .arguments)))
       (places-parted s (eqb 5) a b end (x .middle) (x .high) (x .inFile)
       ∙ ap (λ (ps : List ℕ). places (eqb 5) a (between s a b) ++ ps) (places-none 5 b (between s b end) (x .noResults))
       ∙ append-nil (places (eqb 5) a (between s a b)))
@@ -256,9 +256,9 @@ module _ (s : List ℕ) (start end a b : ℕ) (x : Parted s start end a b) where
       let middle = x .middle in
       let high = x .high in
       places-parted s (eqb 7) start a end (x .low) (omega arith) (x .inFile)
-      ∙ ap₂ (λ (ps qs : List ℕ). ps ++ qs) (places-none 7 start (between s start a) (only 7 6 tt (between s start a) (x .arguments)))
+      ∙ ap₂ (λ (ps qs : List ℕ). ps ++ qs) (places-none 7 start (between s start a) (ofKind-other 7 6 tt (between s start a) (x .arguments)))
       (places-parted s (eqb 7) a b end (x .middle) (x .high) (x .inFile)
-      ∙ ap (λ (ps : List ℕ). ps ++ edgePlaces s b end) (places-none 7 a (between s a b) (only 7 5 tt (between s a b) (x .results))))
+      ∙ ap (λ (ps : List ℕ). ps ++ edgePlaces s b end) (places-none 7 a (between s a b) (ofKind-other 7 5 tt (between s a b) (x .results))))
 
   pub edges-are : edgesOf (between s start end) ≡ edgesBetween s b end
   edges-are =

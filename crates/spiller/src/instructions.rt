@@ -28,7 +28,7 @@ pub struct InstructionSpot {
 }
 
 // The first place from a place on, and not behind place end, where no record of a kind stands.
-fn run_end(s: &[u8], kind: u32, from: usize, end: usize) -> usize
+pub fn run_end(s: &[u8], kind: u32, from: usize, end: usize) -> usize
     requires { ⌜ (from ≤ end) × (end ≤ recordCount (now s)) ⌝ }
     ensures { λ r. ⌜ (r ≡ runEnd (now (s .entry)) kind from end) × (r ≤ end) ⌝ }
 {
