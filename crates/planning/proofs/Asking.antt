@@ -21,6 +21,7 @@ use Rattle.rows.specs.Rows.{rows, rowValues}
 use Rattle.rules.specs.Plan.{Plan, planLoad}
 use Rattle.numbering.specs.NewValues.{unmarked, newValues}
 use Rattle.planning.specs.Standing.{stepOf, noted, Tables, tables, Asked, slotsBy, Known, Good, Ran}
+use Rattle.planning.specs.Walking.{newValues-more}
 use Rattle.planning.specs.declared.Progress.{Progress}
 
 pub give-number : (v : ℕ) → stepOf (2 * v) ≡ gives v
@@ -34,11 +35,6 @@ free-number v =
     let odd : (2 * v + 1) % 2 ≡ 1 = omega arith in
     let half : (2 * v + 1) / 2 ≡ v = omega arith in
     rw (odd, half)
-
--- one new value more
-pub newValues-more : (sizes : List ℕ) (n x : ℕ) → n < length sizes → newValues (set sizes n x) (n + 1) ≡ newValues sizes n ++ (unmarked x ∷ [])
-unfolding newValues
-newValues-more sizes n x l = rw (add-one n, take-suc-set sizes n x l) (map-append unmarked (take n sizes) (x ∷ []))
 
 -- one step more
 noted-more : (steps : List ℕ) (n x : ℕ) → n < length steps → noted (set steps n x) (n + 1) ≡ noted steps n ++ (stepOf x ∷ [])

@@ -18,8 +18,9 @@ use Rattle.sharing.specs.SlotSteps.{SlotStep, frees, freeOwn, taken}
 use Rattle.rows.specs.Rows.{rows, rowValues}
 use Rattle.numbering.specs.NewValues.{unmarked, newValues}
 use Rattle.planning.specs.Standing.{Tables, tables, slotsBy, planOf, Good, Ran}
+use Rattle.planning.specs.Walking.{newValues-more}
 use Rattle.planning.specs.declared.Progress.{Progress}
-use Rattle.planning.proofs.Asking.{free-number, newValues-more, slots-more, plan-same}
+use Rattle.planning.proofs.Asking.{free-number, slots-more, plan-same}
 
 -- a freed slot stays its value's
 free-keeps : (size : ℕ) (o : Option ℕ) (p : StackSlots) → freeOwn size o p .slotOf ≡ p .slotOf

@@ -4,12 +4,19 @@ use mathlib.Core.Path.{_≡_, refl, sym, ap, subst, _∙_}
 use mathlib.Core.Option.{none, some}
 use mathlib.Core.List.{List, [], _∷_, _++_, map}
 use native.Mathlib.Omega.{arith}
+use native.Mathlib.Numerals.{add-one}
 use lib.ListN.{length, take, set, length-append, length-map, length-set}
-use lib.Seq.{length-take-le}
+use lib.Seq.{length-take-le, take-suc-set}
 use Rattle.rules.specs.Tree.{Value, Function}
 use Rattle.rules.specs.Plan.{Plan, Made, Planning}
+use Rattle.lists.specs.Maps.{map-append}
 use Rattle.numbering.specs.NewValues.{unmarked, newValues}
 use Rattle.planning.specs.Standing.{Tables, tables, planOf, Good, Kept, Ran, mark, stepAt, walk, Walked}
+
+-- one new value more
+pub newValues-more : (sizes : List ℕ) (n x : ℕ) → n < length sizes → newValues (set sizes n x) (n + 1) ≡ newValues sizes n ++ (unmarked x ∷ [])
+unfolding newValues
+newValues-more sizes n x l = rw (add-one n, take-suc-set sizes n x l) (map-append unmarked (take n sizes) (x ∷ []))
 
 module _ (f : Function) where
   -- room for more records is room for fewer

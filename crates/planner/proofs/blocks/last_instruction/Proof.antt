@@ -1,0 +1,69 @@
+use borrow.Author.Needs.{needs}
+use Rattle.planner.specs.Backward.{last-start, last-here, last-not, last-none}
+use Rattle.listing.specs.Stepping.{headsFrom}
+use Rattle.rules.specs.Records.{kind}
+use native.Mathlib.Omega.{arith}
+use Prim.Native.Nat.{_≤_, ℕ}
+use mathlib.Core.List.{[]}
+use mathlib.Core.Path.{_≡_, sym, ap, subst, _∙_}
+use Rattle.planner.proofs.blocks.last_instruction.Statement.{statement}
+use Rattle.planner.proofs.blocks.last_instruction.Tie as tie
+use Rattle.planner.proofs.blocks.last_instruction.Reads as reads
+use Rattle.planner.proofs.blocks.last_instruction.Lts as lts
+use Rattle.records.proofs.kind_of.Reads as kind-of-reads
+use Rattle.records.proofs.record_at.Reads as record-at-reads
+
+abbrev Inv-loop : tie.InvT-loop
+Inv-loop s front end i₀ i = (front ≤ i) × (i ≤ end) × (headsFrom s i end ≡ [])
+
+abbrev μ-loop : tie.MeasureT-loop
+μ-loop s front end i₀ i = i
+
+-- src/blocks.rt:36:5
+loop-holds : tie.Need-loop-holds Inv-loop μ-loop
+loop-holds c = (omega (arith, c .before .pre .0), omega arith, last-start (c .before .args .s .now) (c .before .args .front) (c .before .args .end) (c .before .pre .1))
+
+-- src/blocks.rt:37:9
+sub-i : tie.Need-sub-i Inv-loop μ-loop
+sub-i c = search needs
+
+-- src/blocks.rt:38:20
+record-at-requires : tie.Need-record-at-requires Inv-loop μ-loop
+record-at-requires c κs = search needs
+
+-- src/blocks.rt:38:12
+kind-of-requires : tie.Need-kind-of-requires Inv-loop μ-loop
+kind-of-requires c κs = search needs
+
+-- src/blocks.rt:39:13
+returns : tie.Need-returns Inv-loop μ-loop
+returns c = last-here (c .before .before .before .before .before .before .args .s .now) (c .before .before .before .before .before .before .args .front) (c .before .before .before .before .before .before .args .end) (c .before .before .before .before .before .before .pre .1) (c .before .before .before .before .loop .i) (c .before .before .before .loop-test .taken) (c .before .before .before .before .loop .inv .1) (c .before .before .before .before .loop .inv .2) (sym (c .before .kind-of .ensures .0 ∙ ap kind (c .before .before .record-at .ensures)) ∙ c .if1 .taken)
+
+-- src/blocks.rt:36:5
+loop-less : tie.Need-loop-less Inv-loop μ-loop
+loop-less c = search needs
+
+-- src/blocks.rt:36:5
+loop-again : tie.Need-loop-again Inv-loop μ-loop
+loop-again c = (omega (arith, c .before .before .before .loop-test .taken), omega (arith, c .before .before .before .before .loop .inv .1), last-not (c .before .before .before .before .before .before .args .s .now) (c .before .before .before .before .before .before .args .front) (c .before .before .before .before .before .before .args .end) (c .before .before .before .before .before .before .pre .1) (c .before .before .before .before .loop .i) (c .before .before .before .loop-test .taken) (c .before .before .before .before .loop .inv .1) (c .before .before .before .before .loop .inv .2) (λ h. c .if1 .left (c .before .kind-of .ensures .0 ∙ ap kind (c .before .before .record-at .ensures) ∙ h)))
+
+-- src/blocks.rt:31:1
+returns-2 : tie.Need-returns-2 Inv-loop μ-loop
+returns-2 c =
+    let there : c .before .loop .i ≡ c .before .before .before .args .front = omega (arith, c .loop-test .left, c .before .loop .inv .0) in
+    absurd (last-none (c .before .before .before .args .s .now) (c .before .before .before .args .front) (c .before .before .before .args .end) (c .before .before .before .pre .1) (c .before .before .before .pre .0) (c .before .before .before .pre .2) (subst (λ (n : ℕ). headsFrom (c .before .before .before .args .s .now) n (c .before .before .before .args .end) ≡ []) there (c .before .loop .inv .2)))
+
+pub last-instruction-spec : {M : Type 1} → statement M
+last-instruction-spec =
+    tie.close
+    (tie.spec
+    Inv-loop
+    μ-loop
+    loop-holds
+    sub-i
+    record-at-requires
+    kind-of-requires
+    returns
+    loop-less
+    loop-again
+    returns-2)
