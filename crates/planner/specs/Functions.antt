@@ -2,7 +2,7 @@
 use Prim.Native.Nat.{ℕ, _+_, _*_, _≤_}
 use mathlib.Core.Path.{_≡_, ap, _∙_}
 use mathlib.Core.Bool.{false}
-use mathlib.Core.List.{List, map, append-nil}
+use mathlib.Core.List.{List, [], map, append-nil}
 use native.Mathlib.Omega.{arith}
 use lib.ListN.{length}
 use lib.Dec.{T}
@@ -30,8 +30,9 @@ use Rattle.numbering.specs.NewValues.{newValues}
 use Rattle.planning.specs.declared.Progress.{Progress}
 use Rattle.planning.specs.Operands.{Reading}
 use Rattle.planning.specs.Standing.{Tables, tables, noted, slotsBy, planOf}
+use Rattle.planning.specs.Walking.{good-less}
 use Rattle.spiller.specs.Noted.{Able}
-use Rattle.planner.specs.AllBlocks.{Firsts, BlocksNoted}
+use Rattle.planner.specs.AllBlocks.{widths, Firsts, BlocksNoted, all-fit}
 use Rattle.planner.specs.BlockTables.{PlanTables}
 use Rattle.planner.specs.declared.functions.FunctionSize.{FunctionSize}
 
@@ -68,6 +69,12 @@ module _ {s places order firsts spilled table outs : List ℕ} {size : FunctionS
         listsRoom = g .listsRoom;
       }
 
+  -- the records of the reachable blocks are no more than the file's
+  pub given-fit : widths s (reachable (functionIn s)) ≤ recordCount s
+  given-fit =
+      all-fit s places order table outs firsts (size .reachable) (g .walked) given-tables (g .numbered)
+      (tables [] [] [] (record { pointer = 0; given = 0; made = 0; blocks = 0; steps = 0 })) []
+
 -- what is lent: zeros, with room for what every record of the file may make
 pub record PlanLent (s asked steps sizes numbers : List ℕ) : Type 0 where
   pub row : HasRow asked 0
@@ -90,6 +97,8 @@ pub record FunctionPlanned (s : List ℕ) (pointer : ℕ) (t t′ : Tables) (num
   pub stepsLong : length (t′ .steps) ≡ length (t .steps)
   pub sizesLong : length (t′ .sizes) ≡ length (t .sizes)
   pub long : length numbers′ ≡ length numbers
+  pub stepsNoted : t′ .progress .steps ≤ length (t′ .steps)
+  pub sizesNoted : t′ .progress .made ≤ length (t′ .sizes)
 
 module _ (s asked steps sizes numbers : List ℕ) (pointer values blocks : ℕ) (lent : PlanLent s asked steps sizes numbers)
     (are : values ≡ length (functionIn s .values)) (count : blocks ≡ length (functionIn s .blocks)) where
@@ -126,9 +135,12 @@ module _ (s asked steps sizes numbers : List ℕ) (pointer values blocks : ℕ) 
   unfolding slotsBy noted newValues
   unplanned-is = λ j. record { slots = noSlots; values = append-nil (f .values) j; blocks = count j }
 
-  pub function-planned : (t′ : Tables) (numbers′ : List ℕ) → BlocksNoted s pointer (reachable f) t numbers t′ numbers′ → FunctionPlanned s pointer t t′ numbers numbers′
+  pub function-planned :
+      T (isAccepted (firstOf (fileRefusals s))) → widths s (reachable f) ≤ recordCount s → (t′ : Tables) (numbers′ : List ℕ)
+      → BlocksNoted s pointer (reachable f) t numbers t′ numbers′ → FunctionPlanned s pointer t t′ numbers numbers′
   unfolding planned
-  function-planned t′ numbers′ a =
+  function-planned accepted fit t′ numbers′ a =
+      let left = a .kept .good 0 (good-less f t (recordCount s) (widths s (reachable f) + 0) (omega (arith, fit)) (unplanned-able accepted .good)) in
       let all = a .answer ∙ ap (forEach (planBlock f pointer) (reachable f)) unplanned-is in
       record {
         plan = ap (λ (x : List BlockPlan × Plan). x .1) all;
@@ -137,4 +149,6 @@ module _ (s asked steps sizes numbers : List ℕ) (pointer values blocks : ℕ) 
         stepsLong = a .kept .stepsLong;
         sizesLong = a .kept .sizesLong;
         long = a .long;
+        stepsNoted = omega (arith, left .roomSteps);
+        sizesNoted = omega (arith, left .roomSizes);
       }
