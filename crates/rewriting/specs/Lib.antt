@@ -1,5 +1,6 @@
 pub mod Answers
 pub mod Found
+pub mod Planning
 pub mod Plans
 pub mod Rows
 pub mod Tables

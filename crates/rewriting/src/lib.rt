@@ -3,6 +3,8 @@ use acceptance::survey::BlockCounts;
 use solving::LivenessCounts;
 
 pub mod output;
+pub mod plans;
+pub mod spilled;
 
 // What has been found of a file: its blocks, the visits and pushes of liveness, and how many instructions it has.
 pub struct Found {

@@ -1,0 +1,177 @@
+-- What a plan is made from and what it leaves: the tables of planning and of the slots, put together.
+use Prim.Native.Nat.{ℕ, suc, _+_, _*_, _<_, _≤_}
+use mathlib.Core.Path.{_≡_, refl, sym, ap, subst, _∙_}
+use mathlib.Core.Bool.{true, false}
+use mathlib.Core.Option.{Option}
+use mathlib.Core.List.{List, map}
+use native.Mathlib.Omega.{arith}
+use lib.ListN.{length, getD, take, replicate, length-replicate}
+use lib.Dec.{T}
+use Rattle.rules.specs.Limits.{largestRecords, largestValues, largestBlocks, largestInstructions, tableWords, rowWords}
+use Rattle.rules.specs.Lists.{orElse}
+use Rattle.rules.specs.Tree.{Function}
+use Rattle.rules.specs.Records.{recordCount, records}
+use Rattle.rules.specs.File.{ordered, functionIn}
+use Rattle.rules.specs.Liveness.{process, lists, isSpilled}
+use Rattle.rules.specs.Refusals.{firstOf, fileRefusals, spilledSize}
+use Rattle.rules.specs.Services.{isAccepted}
+use Rattle.rules.specs.Slots.{StackSlots}
+use Rattle.rules.specs.Plan.{Plan, planned}
+use Rattle.lists.specs.Tests.{is-true}
+use Rattle.graph.specs.Few.{records-few, values-few, blocks-few, instructions-few}
+use Rattle.graph.specs.Links.{Walked}
+use Rattle.graph.specs.ByTable.{place-at}
+use Rattle.graph.specs.Zeros.{Zeros, zeros-zeros}
+use Rattle.rows.specs.Rows.{rows, rowValues}
+use Rattle.listing.specs.Ascending.{length-lists-instructions}
+use Rattle.listing.specs.Crossings.{listed}
+use Rattle.numbering.specs.Beside.{made}
+use Rattle.planning.specs.Standing.{Tables, tables, slotsBy, planOf}
+use Rattle.planning.specs.declared.Progress.{Progress}
+use Rattle.planner.specs.declared.functions.FunctionSize.{FunctionSize}
+use Rattle.planner.specs.AllBlocks.{Firsts}
+use Rattle.planner.specs.FirstNumbers.{NumberedTo, numbered-firsts}
+use Rattle.planner.specs.Functions.{PlanGiven, FunctionPlanned}
+use Rattle.planner.specs.Functions.{PlanLent as LentToPlanner}
+use Rattle.layout.specs.Whole.{PlanTables}
+use Rattle.stackslots.specs.Holders.{Lent, Replayed, holders, Room}
+use Rattle.stackslots.specs.Planned.{planned-fitting}
+use Rattle.acceptance.specs.Survey.{accepted-is}
+use Rattle.rewriting.specs.declared.Found.{Found}
+use Rattle.rewriting.specs.declared.Planned.{Planned}
+use Rattle.rewriting.specs.Plans.{countsOf}
+use Rattle.rewriting.specs.Trees.{accepted-tree}
+use Rattle.rewriting.specs.Values.{values-first}
+
+-- an accepted file by its tables, with its live sets, its lists and its spilled values as rows, of sizes that a slot can have
+pub record Plannable (s places order outs lists′ spilled : List ℕ) (found : Found) : Type 0 where
+  pub accepted : T (isAccepted (firstOf (fileRefusals s)))
+  pub walked : Walked s places order (found .blocks .reachable)
+  pub all-counted : found .blocks .all ≡ length (functionIn s .blocks)
+  pub outs-long : length outs ≡ tableWords
+  pub live : rows outs ≡ process (functionIn s) .outs
+  pub lists-long : length lists′ ≡ largestInstructions * rowWords
+  pub listed-rows : rows lists′ ≡ listed (functionIn s)
+  pub spilled-long : length spilled ≡ rowWords
+  pub spilled-row : rows spilled 0 ≡ isSpilled (functionIn s)
+  pub sized : spilledSize (functionIn s) ≡ false
+
+-- what is lent: zeros, a place for each record, each value, each new value and each slot
+pub record PlanLent (numbers slots newSizes slotSizes : List ℕ) : Type 0 where
+  pub blank-numbers : Zeros numbers
+  pub numbers-long : largestRecords ≤ length numbers
+  pub blank-slots : Zeros slots
+  pub slots-long : rowValues ≤ length slots
+  pub newSizes-long : length newSizes ≡ 2 * largestRecords
+  pub slotSizes-long : rowValues ≤ length slotSizes
+
+-- THE PLAN, as tables
+pub record RecordsPlanned (s places lists′ : List ℕ) (found : Found) (pointer : ℕ) (numbers slots newSizes slotSizes : List ℕ) (p : Planned) : Type 0 where
+  pub pointed : p .pointer ≡ pointer
+  pub plan : PlanTables s numbers slots lists′ newSizes slotSizes (countsOf places found p) pointer
+  pub made-room : p .made ≤ length newSizes
+  pub slots-room : p .slots ≤ length slotSizes
+  pub slots-few : p .slots ≤ rowValues
+  pub blocks-planned : p .blocks ≡ planned (functionIn s) pointer .1 .blocks
+
+module _ {s places order outs lists′ spilled : List ℕ} {found : Found} (h : Plannable s places order outs lists′ spilled found) where
+  abbrev f : Function
+  f = functionIn s
+
+  in-order : T (ordered 0 (records s))
+  in-order = h .walked .given .inOrder
+
+  pub values-counted : getD places 0 0 ≡ length (f .values)
+  values-counted = place-at s places (h .walked .given) 0 ∙ values-first s in-order
+
+  blocks-small : length (f .blocks) ≤ largestBlocks
+  blocks-small = blocks-few s (accepted-is s (h .accepted) .readable .few)
+
+  records-small : recordCount s ≤ largestRecords
+  records-small = records-few s (accepted-is s (h .accepted) .readable .few)
+
+  values-small : length (f .values) ≤ rowValues
+  values-small = values-few s (accepted-is s (h .accepted) .readable .few)
+
+  -- a table of the first instructions' numbers has room
+  pub firsts-room : (n : ℕ) → largestBlocks ≤ n → found .blocks .all ≤ n
+  firsts-room n l = omega (arith, h .all-counted, blocks-small, l)
+
+  -- PLANNING can begin
+  pub plan-given :
+      (lent firsts : List ℕ) → NumberedTo s (found .blocks .all) lent firsts → largestBlocks ≤ length lent → (pointer values : ℕ) → values ≡ getD places 0 0
+      → PlanGiven s places order firsts spilled lists′ outs
+      (record { pointer = pointer; values = values; blocks = found .blocks .all; reachable = found .blocks .reachable })
+  plan-given lent firsts numbered l pointer values v =
+      let r = accepted-is s (h .accepted) .readable in
+      record {
+        accepted = h .accepted;
+        walked = h .walked;
+        numbered = numbered-firsts s lent firsts (subst (λ (b : ℕ). NumberedTo s b lent firsts) (h .all-counted) numbered) (omega (arith, blocks-small, l));
+        spilledRow = omega (arith, h .spilled-long);
+        spilledAre = h .spilled-row;
+        live = h .live;
+        outsRoom = omega (arith, h .outs-long, blocks-small);
+        rowsAre = h .listed-rows;
+        listsRoom = omega (arith, h .lists-long, length-lists-instructions f, instructions-few s (r .few) (r .inOrder));
+        values = v ∙ values-counted;
+        blocks = h .all-counted;
+      }
+
+  pub plan-lent :
+      {numbers slots newSizes slotSizes : List ℕ} → PlanLent numbers slots newSizes slotSizes
+      → LentToPlanner s (replicate rowWords 0) (replicate (largestValues + largestRecords) 0) newSizes numbers
+  plan-lent g =
+      record {
+        row = omega (arith, length-replicate {A = ℕ} rowWords 0);
+        unasked = zeros-zeros rowWords;
+        stepsRoom = omega (arith, records-small, length-replicate {A = ℕ} (largestValues + largestRecords) 0);
+        sizesRoom = omega (arith, records-small, g .newSizes-long);
+        small = omega (arith, g .newSizes-long);
+        blank = g .blank-numbers;
+        numbersRoom = omega (arith, records-small, g .numbers-long);
+      }
+
+  module _ {pointer : ℕ} {t t′ : Tables} {numbers numbers′ : List ℕ} (a : FunctionPlanned s pointer t t′ numbers numbers′) where
+    -- its slots are its steps replayed
+    slots-replayed : slotsBy f (t′ .steps) (t′ .progress .steps) ≡ planned f pointer .1 .slots
+    slots-replayed = ap (λ (p : Plan). p .slots) (a .plan)
+
+    -- REPLAYING can begin
+    pub replay-lent :
+        (older tags sizes : List ℕ) → length (t′ .steps) ≤ length older → Zeros tags → rowValues ≤ length tags → rowValues ≤ length sizes
+        → Lent s (t′ .steps) (t′ .progress .steps) (replicate 5 0) older tags sizes
+    replay-lent older tags sizes o blank l m =
+        let tree = accepted-tree s (h .accepted) in
+        record {
+          inOrder = is-true (ordered 0 (records s)) in-order;
+          inSteps = a .stepsNoted;
+          room = record { heads = omega arith; older = omega (arith, a .stepsNoted, o); tags = l; sizes = m };
+          emptyHeads = zeros-zeros 5;
+          emptyTags = blank;
+          fitting = planned-fitting f (tree .in-file) (tree .some-block) pointer (t′ .steps) (t′ .progress .steps) slots-replayed (h .sized) values-small;
+        }
+
+    -- THE WHOLE PLAN
+    pub records-planned :
+        {older tags sizes : List ℕ} (r : ℕ) {heads′ older′ tags′ sizes′ : List ℕ}
+        → Replayed s (t′ .steps) (t′ .progress .steps) (replicate 5 0) older tags sizes r heads′ older′ tags′ sizes′ → rowValues ≤ length sizes
+        → RecordsPlanned s places lists′ found pointer numbers′ tags′ (t′ .sizes) sizes′
+        (record { pointer = pointer; made = t′ .progress .made; slots = r; blocks = t′ .progress .blocks })
+    records-planned r g room =
+        record {
+          pointed = refl;
+          plan =
+              record {
+                numbered = accepted-is s (h .accepted) .readable .numbered;
+                listedRows = h .listed-rows;
+                values = ap (λ (p : Plan). p .values) (a .plan);
+                slotsMade = g .slots ∙ ap (λ (x : StackSlots). x .made) slots-replayed;
+                slotNumbers = λ v. ap (orElse 0) (g .tagged v ∙ ap (λ (x : StackSlots). x .slotOf v) slots-replayed);
+                plans = a .blocks;
+              };
+          made-room = a .sizesNoted;
+          slots-room = omega (arith, g .few, g .long .sizes, room);
+          slots-few = g .few;
+          blocks-planned = ap (λ (p : Plan). p .blocks) (a .plan);
+        }
