@@ -1,3 +1,4 @@
 pub mod Backward
 pub mod SoundEdges
 pub mod Blocks
+pub mod RowLists
