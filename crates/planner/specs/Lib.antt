@@ -2,3 +2,4 @@ pub mod Backward
 pub mod SoundEdges
 pub mod Blocks
 pub mod RowLists
+pub mod BlockTables
