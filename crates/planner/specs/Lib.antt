@@ -3,3 +3,4 @@ pub mod SoundEdges
 pub mod Blocks
 pub mod RowLists
 pub mod BlockTables
+pub mod AllBlocks

@@ -1,0 +1,62 @@
+// All reachable blocks by ascending index.
+ghost use mathlib.Core.Path.{_≡_};
+ghost use Prim.Native.Nat.{_≤_};
+ghost use lib.ListN.{length};
+ghost use Rattle.rules.specs.Records.{recordCount};
+ghost use Rattle.rules.specs.File.{functionIn};
+ghost use Rattle.rules.specs.Graph.{reachable};
+ghost use Rattle.graph.specs.Links.{Walked};
+ghost use Rattle.graph.specs.Zeros.{Zeros};
+ghost use Rattle.planning.specs.Operands.{Reading};
+ghost use Rattle.planning.specs.Standing.{tables};
+ghost use Rattle.spiller.specs.Noted.{Able};
+ghost use Rattle.planner.specs.AllBlocks.{Firsts, BlocksNoted};
+ghost use Rattle.planner.specs.BlockTables.{PlanTables};
+use crate::blocks::BlockNumber;
+use crate::blocks::plan_block;
+use planning::Progress;
+
+// The reachable blocks, which a table lists by index; another has the number of each block's first instruction.
+pub fn plan_blocks(
+    s: &[u8],
+    places: &[usize],
+    order: &[usize],
+    count: usize,
+    firsts: &[usize],
+    spilled: &[u64],
+    lists: &[u64],
+    outs: &[u64],
+    asked: &mut [u64],
+    steps: &mut [u32],
+    sizes: &mut [u32],
+    numbers: &mut [u32],
+    p: Progress,
+) -> Progress
+    requires { ⌜ Reading (now s) (now spilled) × Walked (now s) (now places) (now order) count × PlanTables (now s) (now places) (now lists) (now outs) × Firsts (now s) (now firsts) × Zeros (now numbers) × (recordCount (now s) ≤ length (now numbers)) × Able (functionIn (now s)) (tables (now asked) (now steps) (now sizes) p) (recordCount (now s)) ⌝ }
+    ensures { λ r. ⌜ BlocksNoted (now (s .entry)) (p .pointer) (reachable (functionIn (now (s .entry)))) (tables (now (asked .entry)) (now (steps .entry)) (now (sizes .entry)) p) (now (numbers .entry)) (tables (now (asked .exit)) (now (steps .exit)) (now (sizes .exit)) r) (now (numbers .exit)) ⌝ }
+{
+    let mut done = p;
+    let mut i: usize = 0;
+    while i < count {
+        let b = order[i];
+        let at = BlockNumber {
+            block: b,
+            first: firsts[b],
+        };
+        done = plan_block(
+            s,
+            places,
+            spilled,
+            lists,
+            outs,
+            at,
+            asked,
+            steps,
+            sizes,
+            numbers,
+            done,
+        );
+        i += 1;
+    }
+    done
+}
