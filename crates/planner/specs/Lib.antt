@@ -4,3 +4,4 @@ pub mod Blocks
 pub mod RowLists
 pub mod BlockTables
 pub mod AllBlocks
+pub mod Functions

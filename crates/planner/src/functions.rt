@@ -1,4 +1,4 @@
-// All reachable blocks by ascending index.
+// The whole function: all reachable blocks by ascending index.
 ghost use mathlib.Core.Path.{_≡_};
 ghost use Prim.Native.Nat.{_≤_};
 ghost use lib.ListN.{length};
@@ -12,6 +12,7 @@ ghost use Rattle.planning.specs.Standing.{tables};
 ghost use Rattle.spiller.specs.Noted.{Able};
 ghost use Rattle.planner.specs.AllBlocks.{Firsts, BlocksNoted};
 ghost use Rattle.planner.specs.BlockTables.{PlanTables};
+ghost use Rattle.planner.specs.Functions.{PlanGiven, PlanLent, unplanned, FunctionPlanned};
 use crate::blocks::BlockNumber;
 use crate::blocks::plan_block;
 use planning::Progress;
@@ -59,4 +60,55 @@ pub fn plan_blocks(
         i += 1;
     }
     done
+}
+
+// How large a function is: the size of an address, how many values and blocks the file has, and how many blocks are
+// reachable.
+pub struct FunctionSize {
+    pub pointer: u32,
+    pub values: usize,
+    pub blocks: usize,
+    pub reachable: usize,
+}
+
+// The whole function.
+pub fn plan_function(
+    s: &[u8],
+    places: &[usize],
+    order: &[usize],
+    firsts: &[usize],
+    spilled: &[u64],
+    lists: &[u64],
+    outs: &[u64],
+    size: FunctionSize,
+    asked: &mut [u64],
+    steps: &mut [u32],
+    sizes: &mut [u32],
+    numbers: &mut [u32],
+) -> Progress
+    requires { ⌜ PlanGiven (now s) (now places) (now order) (now firsts) (now spilled) (now lists) (now outs) size × PlanLent (now s) (now asked) (now steps) (now sizes) (now numbers) ⌝ }
+    ensures { λ r. ⌜ FunctionPlanned (now (s .entry)) (size .pointer) (tables (now (asked .entry)) (now (steps .entry)) (now (sizes .entry)) (unplanned (size .pointer) (size .values) (size .blocks))) (tables (now (asked .exit)) (now (steps .exit)) (now (sizes .exit)) r) (now (numbers .entry)) (now (numbers .exit)) ⌝ }
+{
+    let start = Progress {
+        pointer: size.pointer,
+        given: size.values,
+        made: 0,
+        blocks: size.blocks,
+        steps: 0,
+    };
+    plan_blocks(
+        s,
+        places,
+        order,
+        size.reachable,
+        firsts,
+        spilled,
+        lists,
+        outs,
+        asked,
+        steps,
+        sizes,
+        numbers,
+        start,
+    )
 }

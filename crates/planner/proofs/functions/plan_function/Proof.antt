@@ -1,0 +1,36 @@
+use Rattle.planner.specs.Functions.{given-reading, given-tables, unplanned-able, function-planned}
+use borrow.Author.Needs.{needs}
+use Rattle.planner.proofs.functions.plan_function.Statement.{statement}
+use Rattle.planner.proofs.functions.plan_function.Tie as tie
+use Rattle.planner.proofs.functions.plan_function.Reads as reads
+use Rattle.planner.proofs.functions.plan_function.Lts as lts
+use Rattle.planner.proofs.functions.plan_blocks.Reads as plan-blocks-reads
+
+-- src/functions.rt:99:5
+plan-blocks-requires : tie.Need-plan-blocks-requires
+plan-blocks-requires c κs = (given-reading (c .before .before .before .before .before .before .before .before .before .before .before .before .before .before .before .pre .0), c .before .before .before .before .before .before .before .before .before .before .before .before .before .before .before .pre .0 .walked, given-tables (c .before .before .before .before .before .before .before .before .before .before .before .before .before .before .before .pre .0), c .before .before .before .before .before .before .before .before .before .before .before .before .before .before .before .pre .0 .numbered, c .before .before .before .before .before .before .before .before .before .before .before .before .before .before .before .pre .1 .blank, c .before .before .before .before .before .before .before .before .before .before .before .before .before .before .before .pre .1 .numbersRoom, unplanned-able (c .before .before .before .before .before .before .before .before .before .before .before .before .before .before .before .args .s .now) (c .before .before .before .before .before .before .before .before .before .before .before .before .before .before .before .args .asked .now) (c .before .before .before .before .before .before .before .before .before .before .before .before .before .before .before .args .steps .now) (c .before .before .before .before .before .before .before .before .before .before .before .before .before .before .before .args .sizes .now) (c .before .before .before .before .before .before .before .before .before .before .before .before .before .before .before .args .numbers .now) (c .before .before .before .before .before .before .before .before .before .before .before .before .before .before .before .args .size .pointer) (c .before .before .before .before .before .before .before .before .before .before .before .before .before .before .before .args .size .values) (c .before .before .before .before .before .before .before .before .before .before .before .before .before .before .before .args .size .blocks) (c .before .before .before .before .before .before .before .before .before .before .before .before .before .before .before .pre .1) (c .before .before .before .before .before .before .before .before .before .before .before .before .before .before .before .pre .0 .values) (c .before .before .before .before .before .before .before .before .before .before .before .before .before .before .before .pre .0 .blocks) (c .before .before .before .before .before .before .before .before .before .before .before .before .before .before .before .pre .0 .accepted))
+
+-- src/functions.rt:75:1
+same-length : tie.Need-same-length
+same-length c = c .before .before .before .before .before .before .before .before .plan-blocks .ensures .kept .askedLong
+
+-- src/functions.rt:75:1
+same-length-2 : tie.Need-same-length-2
+same-length-2 c = c .before .before .before .before .before .before .before .before .plan-blocks .ensures .kept .stepsLong
+
+-- src/functions.rt:75:1
+same-length-3 : tie.Need-same-length-3
+same-length-3 c = c .before .before .before .before .before .before .before .before .plan-blocks .ensures .kept .sizesLong
+
+-- src/functions.rt:75:1
+same-length-4 : tie.Need-same-length-4
+same-length-4 c = c .before .before .before .before .before .before .before .before .plan-blocks .ensures .long
+
+-- src/functions.rt:75:1
+returns : tie.Need-returns
+returns c = function-planned (c .before .before .before .before .before .before .before .before .before .before .before .before .before .before .before .before .before .before .before .before .before .before .before .before .args .s .now) (c .before .before .before .before .before .before .before .before .before .before .before .before .before .before .before .before .before .before .before .before .before .before .before .before .args .asked .now) (c .before .before .before .before .before .before .before .before .before .before .before .before .before .before .before .before .before .before .before .before .before .before .before .before .args .steps .now) (c .before .before .before .before .before .before .before .before .before .before .before .before .before .before .before .before .before .before .before .before .before .before .before .before .args .sizes .now) (c .before .before .before .before .before .before .before .before .before .before .before .before .before .before .before .before .before .before .before .before .before .before .before .before .args .numbers .now) (c .before .before .before .before .before .before .before .before .before .before .before .before .before .before .before .before .before .before .before .before .before .before .before .before .args .size .pointer) (c .before .before .before .before .before .before .before .before .before .before .before .before .before .before .before .before .before .before .before .before .before .before .before .before .args .size .values) (c .before .before .before .before .before .before .before .before .before .before .before .before .before .before .before .before .before .before .before .before .before .before .before .before .args .size .blocks) (c .before .before .before .before .before .before .before .before .before .before .before .before .before .before .before .before .before .before .before .before .before .before .before .before .pre .1) (c .before .before .before .before .before .before .before .before .before .before .before .before .before .before .before .before .before .before .before .before .before .before .before .before .pre .0 .values) (c .before .before .before .before .before .before .before .before .before .before .before .before .before .before .before .before .before .before .before .before .before .before .before .before .pre .0 .blocks) _ _ (c .before .before .before .before .before .before .before .before .plan-blocks .ensures)
+
+pub plan-function-spec : {M : Type 1} → statement M
+plan-function-spec =
+    tie.close
+    (tie.spec plan-blocks-requires same-length same-length-2 same-length-3 same-length-4 returns)
