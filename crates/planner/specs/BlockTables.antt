@@ -113,6 +113,16 @@ module _ (f : Function) where
       ∙ getD-behind (concatMap (listsOf f) (upFrom 0 b)) (listsOf f b ++ rest) j none
       ∙ getD-front (listsOf f b) rest j none (omega (arith, length-listsOf b)))
 
+-- a file by its table, with the indices of its blocks
+pub indices-given : (s places : List ℕ) → Given s places → IndexTables s places (indexTable (functionIn s) (length (functionIn s .blocks)))
+indices-given s places given =
+    let f = functionIn s in
+    record {
+      given = given;
+      indexed = ap (indexTable f) (sym (length-indexTable f (length (f .blocks))));
+      indexRoom = omega (arith, length-indexTable f (length (f .blocks)));
+    }
+
 module _ (s places table outs : List ℕ) (t : PlanTables s places table outs) (b first : ℕ) (l : b < length (functionIn s .blocks)) where
   abbrev f′ : Function
   f′ = functionIn s
@@ -126,12 +136,7 @@ module _ (s places table outs : List ℕ) (t : PlanTables s places table outs) (
   tabled : ListTables s places (indexTable f′ (length (f′ .blocks))) outs (length table)
   tabled =
       record {
-        tables =
-            record {
-              given = t .given;
-              indexed = ap (indexTable f′) (sym (length-indexTable f′ (length (f′ .blocks))));
-              indexRoom = omega (arith, length-indexTable f′ (length (f′ .blocks)));
-            };
+        tables = indices-given s places (t .given);
         values = t .values;
         live = t .live;
         outsRoom = t .outsRoom;

@@ -5,3 +5,4 @@ pub mod RowLists
 pub mod BlockTables
 pub mod AllBlocks
 pub mod Functions
+pub mod FirstNumbers

@@ -1,0 +1,109 @@
+use borrow.Author.Needs.{needs}
+use Rattle.planner.specs.FirstNumbers.{NumberedTo, numbered-start, numbered-more, next-first, next-low}
+use Rattle.listing.specs.Crossings.{crossingsBelow}
+use Rattle.graph.specs.ByTable.{places-long, end-le, start-less}
+use Rattle.rules.specs.File.{functionIn}
+use lib.ListN.{length, getD}
+use native.Mathlib.Omega.{arith}
+use Prim.Native.Nat.{ℕ, _≤_, _-_}
+use mathlib.Core.Path.{_≡_, refl, sym, subst, _∙_}
+use Rattle.planner.proofs.functions.number_instructions.Statement.{statement}
+use Rattle.planner.proofs.functions.number_instructions.Tie as tie
+use Rattle.planner.proofs.functions.number_instructions.Reads as reads
+use Rattle.planner.proofs.functions.number_instructions.Lts as lts
+use Rattle.listing.proofs.blocks.count_instructions.Reads as count-instructions-reads
+
+abbrev Inv-loop : tie.InvT-loop
+Inv-loop s places blocks firsts₀ first₀ b₀ firsts first b = (b ≤ blocks) × (first ≡ length (crossingsBelow (functionIn s) b)) × (first ≤ getD places b 0) × NumberedTo s b firsts₀ firsts
+
+abbrev μ-loop : tie.MeasureT-loop
+μ-loop s places blocks firsts₀ first₀ b₀ firsts first b = blocks - b
+
+-- src/functions.rt:30:5
+loop-holds : tie.Need-loop-holds Inv-loop μ-loop
+loop-holds c = (omega arith, refl, omega arith, numbered-start (c .before .before .before .args .s .now) (c .before .before .before .args .firsts .now))
+
+-- src/functions.rt:31:9
+mul-firsts : tie.Need-mul-firsts Inv-loop μ-loop
+mul-firsts c = search needs
+
+-- src/functions.rt:31:9
+slice-write-firsts : tie.Need-slice-write-firsts Inv-loop μ-loop
+slice-write-firsts c = omega (arith, c .loop-test .taken, c .before .before .before .before .before .pre .2, c .before .loop .inv .3 .long)
+
+-- src/functions.rt:32:21
+mul-start : tie.Need-mul-start Inv-loop μ-loop
+mul-start c = search needs
+
+-- src/functions.rt:32:21
+shared-slice-read-start : tie.Need-shared-slice-read-start Inv-loop μ-loop
+shared-slice-read-start c = omega (arith, c .before .loop-test .taken, c .before .before .before .before .before .before .pre .1, places-long (c .before .before .before .before .before .before .args .s .now) (c .before .before .before .before .before .before .args .places .now) (c .before .before .before .before .before .before .pre .0))
+
+-- src/functions.rt:32:21
+add-start : tie.Need-add-start Inv-loop μ-loop
+add-start c = omega (arith, end-le (c .before .before .before .before .before .before .args .s .now) (c .before .before .before .before .before .before .args .places .now) (c .before .before .before .before .before .before .pre .0) (c .before .before .loop .b) (omega (arith, c .before .loop-test .taken, c .before .before .before .before .before .before .pre .1)), start-less (c .before .before .before .before .before .before .args .s .now) (c .before .before .before .before .before .before .args .places .now) (c .before .before .before .before .before .before .pre .0) (c .before .before .loop .b) (omega (arith, c .before .loop-test .taken, c .before .before .before .before .before .before .pre .1)))
+
+-- src/functions.rt:33:26
+add-end : tie.Need-add-end Inv-loop μ-loop
+add-end c = search needs
+
+-- src/functions.rt:33:19
+mul-end : tie.Need-mul-end Inv-loop μ-loop
+mul-end c = search needs
+
+-- src/functions.rt:33:19
+shared-slice-read-end : tie.Need-shared-slice-read-end Inv-loop μ-loop
+shared-slice-read-end c = omega (arith, c .before .before .loop-test .taken, c .before .before .before .before .before .before .before .pre .1, places-long (c .before .before .before .before .before .before .before .args .s .now) (c .before .before .before .before .before .before .before .args .places .now) (c .before .before .before .before .before .before .before .pre .0))
+
+-- src/functions.rt:34:13
+count-instructions-requires : tie.Need-count-instructions-requires Inv-loop μ-loop
+count-instructions-requires c κs = (omega (arith, end-le (c .before .before .before .before .before .before .before .args .s .now) (c .before .before .before .before .before .before .before .args .places .now) (c .before .before .before .before .before .before .before .pre .0) (c .before .before .before .loop .b) (omega (arith, c .before .before .loop-test .taken, c .before .before .before .before .before .before .before .pre .1)), start-less (c .before .before .before .before .before .before .before .args .s .now) (c .before .before .before .before .before .before .before .args .places .now) (c .before .before .before .before .before .before .before .pre .0) (c .before .before .before .loop .b) (omega (arith, c .before .before .loop-test .taken, c .before .before .before .before .before .before .before .pre .1))), omega (arith, end-le (c .before .before .before .before .before .before .before .args .s .now) (c .before .before .before .before .before .before .before .args .places .now) (c .before .before .before .before .before .before .before .pre .0) (c .before .before .before .loop .b) (omega (arith, c .before .before .loop-test .taken, c .before .before .before .before .before .before .before .pre .1)), start-less (c .before .before .before .before .before .before .before .args .s .now) (c .before .before .before .before .before .before .before .args .places .now) (c .before .before .before .before .before .before .before .pre .0) (c .before .before .before .loop .b) (omega (arith, c .before .before .loop-test .taken, c .before .before .before .before .before .before .before .pre .1))))
+
+-- src/functions.rt:35:9
+add-first : tie.Need-add-first Inv-loop μ-loop
+add-first c = omega (arith, next-low (c .before .before .before .before .before .before .before .before .args .s .now) (c .before .before .before .before .before .before .before .before .args .places .now) (c .before .before .before .before .before .before .before .before .pre .0) (c .before .before .before .before .loop .b) (omega (arith, c .before .before .before .loop-test .taken, c .before .before .before .before .before .before .before .before .pre .1)) (c .before .before .before .before .loop .first) (c .count-instructions .result) (c .before .before .before .before .loop .inv .1) (c .count-instructions .ensures) (c .before .before .before .before .loop .inv .2), end-le (c .before .before .before .before .before .before .before .before .args .s .now) (c .before .before .before .before .before .before .before .before .args .places .now) (c .before .before .before .before .before .before .before .before .pre .0) (c .before .before .before .before .loop .b) (omega (arith, c .before .before .before .loop-test .taken, c .before .before .before .before .before .before .before .before .pre .1)), start-less (c .before .before .before .before .before .before .before .before .args .s .now) (c .before .before .before .before .before .before .before .before .args .places .now) (c .before .before .before .before .before .before .before .before .pre .0) (c .before .before .before .before .loop .b) (omega (arith, c .before .before .before .loop-test .taken, c .before .before .before .before .before .before .before .before .pre .1)))
+
+-- src/functions.rt:36:9
+add-b : tie.Need-add-b Inv-loop μ-loop
+add-b c = search needs
+
+-- src/functions.rt:30:5
+loop-less : tie.Need-loop-less Inv-loop μ-loop
+loop-less c = search needs
+
+-- src/functions.rt:30:5
+loop-again : tie.Need-loop-again Inv-loop μ-loop
+loop-again c = (omega (arith, c .before .before .before .loop-test .taken), next-first (c .before .before .before .before .before .before .before .before .args .s .now) (c .before .before .before .before .before .before .before .before .args .places .now) (c .before .before .before .before .before .before .before .before .pre .0) (c .before .before .before .before .loop .b) (omega (arith, c .before .before .before .loop-test .taken, c .before .before .before .before .before .before .before .before .pre .1)) (c .before .before .before .before .loop .first) (c .count-instructions .result) (c .before .before .before .before .loop .inv .1) (c .count-instructions .ensures), next-low (c .before .before .before .before .before .before .before .before .args .s .now) (c .before .before .before .before .before .before .before .before .args .places .now) (c .before .before .before .before .before .before .before .before .pre .0) (c .before .before .before .before .loop .b) (omega (arith, c .before .before .before .loop-test .taken, c .before .before .before .before .before .before .before .before .pre .1)) (c .before .before .before .before .loop .first) (c .count-instructions .result) (c .before .before .before .before .loop .inv .1) (c .count-instructions .ensures) (c .before .before .before .before .loop .inv .2), numbered-more (c .before .before .before .before .before .before .before .before .args .s .now) (c .before .before .before .before .loop .b) (c .before .before .before .before .before .before .before .before .args .firsts .now) (c .before .before .before .before .loop .firsts) (c .before .before .before .before .loop .first) (omega (arith, c .before .before .before .loop-test .taken, c .before .before .before .before .before .before .before .before .pre .2, c .before .before .before .before .loop .inv .3 .long)) (c .before .before .before .before .loop .inv .1) (c .before .before .before .before .loop .inv .3))
+
+-- src/functions.rt:24:1
+same-length : tie.Need-same-length Inv-loop μ-loop
+same-length c = c .before .loop .inv .3 .long
+
+-- src/functions.rt:24:1
+returns : tie.Need-returns Inv-loop μ-loop
+returns c =
+    let all : c .before .loop .b ≡ c .before .before .before .before .before .args .blocks = omega (arith, c .loop-test .left, c .before .loop .inv .0) in
+    rw all at (c .before .loop .inv .3)
+
+pub number-instructions-spec : {M : Type 1} → statement M
+number-instructions-spec =
+    tie.close
+    (tie.spec
+    Inv-loop
+    μ-loop
+    loop-holds
+    mul-firsts
+    slice-write-firsts
+    mul-start
+    shared-slice-read-start
+    add-start
+    add-end
+    mul-end
+    shared-slice-read-end
+    count-instructions-requires
+    add-first
+    add-b
+    loop-less
+    loop-again
+    same-length
+    returns)
