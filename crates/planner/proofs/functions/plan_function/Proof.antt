@@ -1,10 +1,6 @@
 use Rattle.planner.specs.Functions.{given-reading, given-tables, unplanned-able, function-planned}
-use borrow.Author.Needs.{needs}
 use Rattle.planner.proofs.functions.plan_function.Statement.{statement}
 use Rattle.planner.proofs.functions.plan_function.Tie as tie
-use Rattle.planner.proofs.functions.plan_function.Reads as reads
-use Rattle.planner.proofs.functions.plan_function.Lts as lts
-use Rattle.planner.proofs.functions.plan_blocks.Reads as plan-blocks-reads
 
 -- src/functions.rt:99:5
 plan-blocks-requires : tie.Need-plan-blocks-requires
