@@ -142,7 +142,8 @@ module _ (s places order table outs firsts : List ℕ) (count : ℕ) (w : Walked
   below : (b : ℕ) → b ∈ reachable function → b < length (function .blocks)
   below b m = reachable-in-file function (g .given .inFile) (some s places (g .given)) m
 
-  all-fit : widths s (reachable function) ≤ recordCount s
+  -- their records are no more than the file's
+  pub all-fit : widths s (reachable function) ≤ recordCount s
   all-fit =
       let k = length (function .blocks) in
       omega (

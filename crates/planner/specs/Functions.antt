@@ -29,9 +29,10 @@ use Rattle.numbering.specs.Beside.{blockPlanAt}
 use Rattle.numbering.specs.NewValues.{newValues}
 use Rattle.planning.specs.declared.Progress.{Progress}
 use Rattle.planning.specs.Operands.{Reading}
-use Rattle.planning.specs.Standing.{Tables, tables, noted, slotsBy, planOf}
-use Rattle.spiller.specs.Noted.{Able}
-use Rattle.planner.specs.AllBlocks.{Firsts, BlocksNoted}
+use Rattle.planning.specs.Standing.{Tables, tables, noted, slotsBy, planOf, Good}
+use Rattle.planning.specs.Walking.{good-less}
+use Rattle.spiller.specs.Noted.{SameBut, Able}
+use Rattle.planner.specs.AllBlocks.{Firsts, InBlocks, widths, BlocksNoted}
 use Rattle.planner.specs.BlockTables.{PlanTables}
 use Rattle.planner.specs.declared.functions.FunctionSize.{FunctionSize}
 
@@ -86,6 +87,11 @@ unplanned pointer values blocks = record { pointer = pointer; given = values; ma
 pub record FunctionPlanned (s : List ℕ) (pointer : ℕ) (t t′ : Tables) (numbers numbers′ : List ℕ) : Type 0 where
   pub plan : planOf (functionIn s) t′ ≡ planned (functionIn s) pointer .1
   pub blocks : map (blockPlanAt s numbers′) (reachable (functionIn s)) ≡ planned (functionIn s) pointer .0
+  -- numbers stand beside records of reachable blocks only
+  pub elsewhere : SameBut (InBlocks s (reachable (functionIn s))) numbers numbers′
+  -- the tables have held it all
+  pub good : Good (functionIn s) t′ 0
+  pub samePointer : t′ .progress .pointer ≡ t .progress .pointer
   pub askedLong : length (t′ .asked) ≡ length (t .asked)
   pub stepsLong : length (t′ .steps) ≡ length (t .steps)
   pub sizesLong : length (t′ .sizes) ≡ length (t .sizes)
@@ -126,13 +132,18 @@ module _ (s asked steps sizes numbers : List ℕ) (pointer values blocks : ℕ) 
   unfolding slotsBy noted newValues
   unplanned-is = λ j. record { slots = noSlots; values = append-nil (f .values) j; blocks = count j }
 
-  pub function-planned : (t′ : Tables) (numbers′ : List ℕ) → BlocksNoted s pointer (reachable f) t numbers t′ numbers′ → FunctionPlanned s pointer t t′ numbers numbers′
+  pub function-planned :
+      (t′ : Tables) (numbers′ : List ℕ) → T (isAccepted (firstOf (fileRefusals s))) → widths s (reachable f) ≤ recordCount s
+      → BlocksNoted s pointer (reachable f) t numbers t′ numbers′ → FunctionPlanned s pointer t t′ numbers numbers′
   unfolding planned
-  function-planned t′ numbers′ a =
+  function-planned t′ numbers′ accepted fits a =
       let all = a .answer ∙ ap (forEach (planBlock f pointer) (reachable f)) unplanned-is in
       record {
         plan = ap (λ (x : List BlockPlan × Plan). x .1) all;
         blocks = ap (λ (x : List BlockPlan × Plan). x .0) all;
+        elsewhere = a .same;
+        good = a .kept .good 0 (good-less f t (recordCount s) (widths s (reachable f) + 0) (omega arith) (unplanned-able accepted .good));
+        samePointer = a .kept .pointer;
         askedLong = a .kept .askedLong;
         stepsLong = a .kept .stepsLong;
         sizesLong = a .kept .sizesLong;
