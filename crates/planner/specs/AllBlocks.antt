@@ -1,19 +1,19 @@
 -- ALL REACHABLE BLOCKS by ascending index, each in its own places.
 use Prim.Native.Nat.{ℕ, zero, suc, _+_, _-_, _<_, _≤_}
 use mathlib.Core.Path.{_≡_, refl, sym, ap, ap₂, subst, _∙_}
-use mathlib.Core.Bool.{Bool, true, false, not, _||_}
+use mathlib.Core.Bool.{false, not}
 use mathlib.Core.List.{List, [], _∷_, _++_, map, List·Nodup, nodup-cons}
 use native.Mathlib.Omega.{arith}
 use native.Mathlib.Numerals.{add-one}
 use lib.ListN.{length, getD, take}
 use lib.Seq.{take-suc, take-all}
 use lib.Dec.{T, not-T, eqb, eqb→eq, eqb-refl, ltb, ltb→lt, nltb→le}
-use Rattle.rules.specs.Lists.{has, NumberSet, nothing}
+use Rattle.rules.specs.Lists.{has, nothing}
 use Rattle.rules.specs.Tree.{Function}
 use Rattle.rules.specs.Records.{recordCount}
 use Rattle.rules.specs.File.{functionIn}
 use Rattle.rules.specs.Graph.{reachable}
-use Rattle.rules.specs.Plan.{Plan, BlockPlan, forEach, planBlock}
+use Rattle.rules.specs.Plan.{BlockPlan, forEach, planBlock}
 use Rattle.lists.specs.Lack.{lack, lack-insert}
 use Rattle.lists.specs.Maps.{map-append}
 use Rattle.lists.specs.Members.{_∈_, here, there, has→∈, ∈→has, getD-∈}
@@ -28,7 +28,7 @@ use Rattle.listing.specs.Crossings.{crossingsBelow}
 use Rattle.numbering.specs.Beside.{blockPlanAt}
 use Rattle.planning.specs.Standing.{Tables, planOf, Kept}
 use Rattle.spiller.specs.Instructions.{anyKind}
-use Rattle.spiller.specs.Noted.{Within, Able, able-less, able-then, Noted, noted-none, noted-more, Ready}
+use Rattle.spiller.specs.Noted.{Within, Able, able-less, able-then, Noted, noted-none, noted-more}
 use Rattle.spiller.specs.Stable.{Agree, mades-same}
 use Rattle.planner.specs.Backward.{plans-same}
 use Rattle.planner.specs.Blocks.{BlockGiven, BlockReady, BlockNoted}
@@ -142,6 +142,7 @@ module _ (s places order table outs firsts : List ℕ) (count : ℕ) (w : Walked
   below : (b : ℕ) → b ∈ reachable function → b < length (function .blocks)
   below b m = reachable-in-file function (g .given .inFile) (some s places (g .given)) m
 
+  -- their records are no more than the file's
   pub all-fit : widths s (reachable function) ≤ recordCount s
   all-fit =
       let k = length (function .blocks) in

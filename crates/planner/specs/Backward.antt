@@ -26,7 +26,7 @@ use Rattle.planning.specs.Standing.{Tables, planOf, Good, Kept}
 use Rattle.spiller.specs.Edges.{EdgesIn}
 use Rattle.spiller.specs.Instructions.{anyKind, listIf, InstructionNoted}
 use Rattle.spiller.specs.InstructionSteps.{InstructionRecords, InstructionReady}
-use Rattle.spiller.specs.Noted.{Within, Blank, Able, able-then, able-less, Noted, noted-none, noted-before, Ready}
+use Rattle.spiller.specs.Noted.{Within, Blank, Able, able-then, able-less, Noted, noted-none, noted-before}
 use Rattle.spiller.specs.Spans.{places-parted}
 use Rattle.spiller.specs.Stable.{Agree, mades-same, edges-same}
 

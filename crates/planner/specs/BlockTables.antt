@@ -1,9 +1,9 @@
 -- WHAT PLANNING A BLOCK READS, from the tables of an accepted file: the table of its blocks' places, live-out and the lists of
 -- all safepoints as rows.
 use Prim.Native.Nat.{ℕ, zero, suc, _+_, _-_, _*_, _<_, _≤_}
-use mathlib.Core.Path.{_≡_, refl, sym, ap, ap₂, subst, _∙_}
-use mathlib.Core.Bool.{Bool, true, false, cond}
-use mathlib.Core.Option.{Option, none, some}
+use mathlib.Core.Path.{_≡_, refl, sym, ap, ap₂, _∙_}
+use mathlib.Core.Bool.{Bool, true, false}
+use mathlib.Core.Option.{Option, none}
 use mathlib.Core.List.{List, [], _∷_, _++_, map}
 use native.Mathlib.Omega.{arith}
 use native.Mathlib.Numerals.{add-one}
@@ -14,7 +14,7 @@ use Rattle.rules.specs.Lists.{concatMap, has, upFrom, zipWith, NumberSet}
 use Rattle.rules.specs.Tree.{Instruction, Function}
 use Rattle.rules.specs.File.{instructionOf, functionIn}
 use Rattle.rules.specs.Graph.{blockAt, instructionsOf, reachable}
-use Rattle.rules.specs.Liveness.{process, listsAmong, listsOf, lists, listedInstructions, isSpilled}
+use Rattle.rules.specs.Liveness.{process, listsAmong, listsOf, lists}
 use Rattle.rules.specs.Refusals.{sound}
 use Rattle.lists.specs.Maps.{concatMap-append}
 use Rattle.graph.specs.Blocks.{placeOf}
@@ -24,8 +24,7 @@ use Rattle.graph.specs.Tables.{Given, indexTable, length-indexTable}
 use Rattle.listing.specs.Crossings.{crossings, crossingsBelow, length-crossings, listed}
 use Rattle.listing.specs.Stepping.{headsFrom, instructionsFrom}
 use Rattle.listing.specs.Tables.{IndexTables, ListTables, block-records, instructions-by-table, below-fits, behind-block}
-use Rattle.rows.specs.Rows.{rows, rowValues, HasRow}
-use Rattle.planner.specs.Backward.{listedAt}
+use Rattle.rows.specs.Rows.{rows, rowValues}
 use Rattle.planner.specs.Blocks.{BlockGiven}
 use Rattle.planner.specs.RowLists.{row-lists}
 use Rattle.planner.specs.SoundEdges.{sound-edges}

@@ -1,44 +1,42 @@
 -- ONE BLOCK: slots for what is live out of it, its instructions, its parameters.
-use Prim.Native.Nat.{ℕ, zero, suc, _+_, _-_, _*_, _<_, _≤_}
+use Prim.Native.Nat.{ℕ, suc, _+_, _-_, _*_, _<_, _≤_}
 use mathlib.Core.Path.{_≡_, refl, sym, ap, ap₂, subst, _∙_}
-use mathlib.Core.Bool.{Bool, true, false}
+use mathlib.Core.Bool.{false}
 use mathlib.Core.List.{List, [], _∷_, _++_, map, append-nil}
 use native.Mathlib.Omega.{arith}
 use lib.ListN.{length, getD}
 use lib.Dec.{T, eqb, eqb→eq}
-use borrow.Author.Tests.{eq-eqb}
 use Rattle.rules.specs.Limits.{rowWords}
-use Rattle.rules.specs.Lists.{has, keep, members, NumberSet}
-use Rattle.rules.specs.Tree.{Instruction, Function}
-use Rattle.rules.specs.Records.{encode, kind, recordAt, recordCount, records}
+use Rattle.rules.specs.Lists.{has, keep, members}
+use Rattle.rules.specs.Tree.{Function}
+use Rattle.rules.specs.Records.{encode, kind, recordAt, records}
 use Rattle.rules.specs.File.{followers, follows, ofKind, named, functionIn}
 use Rattle.rules.specs.Graph.{blockAt}
 use Rattle.rules.specs.Liveness.{process, listedInstructions, isSpilled}
-use Rattle.rules.specs.Plan.{Plan, Made, InstructionPlan, BlockPlan, forEach, forEachBackward, planSlot, planDefinition, planInstruction, planBlock}
+use Rattle.rules.specs.Plan.{Plan, InstructionPlan, forEach, forEachBackward, planSlot, planDefinition, planInstruction, planBlock}
 use Rattle.rules.specs.declared.Record.{Record}
 use Rattle.rules.specs.declared.Words.{Words}
 use Rattle.lists.specs.Tests.{and-left, or-elim, chosen}
 use Rattle.records.specs.InOrder.{chain}
 use Rattle.records.specs.Kinds.{Kinds, ofKind-append}
-use Rattle.records.specs.Leading.{leading, parameters-lead}
+use Rattle.records.specs.Leading.{parameters-lead}
 use Rattle.graph.specs.Between.{between, between-more}
 use Rattle.graph.specs.Blocks.{placeOf, blockAt-parameters}
 use Rattle.graph.specs.Sections.{places}
 use Rattle.listing.specs.Across.{between-parted}
 use Rattle.listing.specs.Stepping.{headsFrom, BlockRecords}
-use Rattle.rows.specs.Rows.{rows, rowValues, HasRow}
+use Rattle.rows.specs.Rows.{rows, HasRow}
 use Rattle.numbering.specs.Beside.{madeAt, madesBetween, instructionPlansAt, blockPlanAt}
 use Rattle.planning.specs.declared.Progress.{Progress}
 use Rattle.planning.specs.Operands.{Range, Reading, defineAt}
-use Rattle.planning.specs.Standing.{Tables, tables, planOf, Good, Kept, Ran, Walked, Rows, Slotted}
+use Rattle.planning.specs.Standing.{Tables, tables, planOf, Good, Kept, Ran, Walked, Slotted}
 use Rattle.planning.specs.SlotsGiven.{slotted-ran}
 use Rattle.planning.specs.Walking.{kept-none, kept-more}
-use Rattle.spiller.specs.Instructions.{anyKind, DefinitionsNoted}
+use Rattle.spiller.specs.Instructions.{anyKind}
 use Rattle.spiller.specs.InstructionSteps.{run-ready, definitions-done}
 use Rattle.spiller.specs.Noted.{Within, Able, able-less, able-then, Noted, Ready, _without_, ready-then, ready-less}
 use Rattle.spiller.specs.Parted.{runEnd, run-parts, chain-past, places-none, ofKind-other}
 use Rattle.spiller.specs.Spans.{places-parted}
-use Rattle.spiller.specs.Stable.{mades-same}
 use Rattle.planner.specs.Backward.{SoundEdges, listedAt, InstructionsNoted, Walk, plans-same}
 
 -- what is noted beside a block's records
@@ -92,7 +90,7 @@ module _ (s lists outs spilled : List ℕ) (b first start end : ℕ) (x : BlockG
       omega (
         arith,
         ap length (sym (chosen (eqb (kind (recordAt s front)) 3) (encode (recordAt s front) ∷ ofKind 3 (between s (suc front) end)) (ofKind 3 (between s (suc front) end)) e)
-        ∙ ap (ofKind 3) (sym more) ∙ parts .3),
+            ∙ ap (ofKind 3) (sym more) ∙ parts .3),
       ) in
       eqb→eq (kind (recordAt s front)) 4
       (or-elim (eqb (kind (recordAt s front)) 3) (has (kind (recordAt s front)) (4 ∷ [])) (λ e. absurd (three e))
@@ -153,11 +151,6 @@ module _ (s lists outs spilled : List ℕ) (b first start end : ℕ) (x : BlockG
         omega (arith, x .starts, x .ends)
 
     -- slots for what is live out,
-    pub block-slots-ready : Rows spilled outs b asked steps (p .steps) × (p .given ≤ rowValues)
-    block-slots-ready =
-        let good = ready .able .good in
-        (record { inSpilled = r .row; inSet = x .inOuts; inAsked = good .row; room = omega (arith, good .roomSteps) }, omega (arith, good .counted, good .few))
-
     module _ (asked′ steps′ : List ℕ) (n : ℕ) (slotted : Slotted (keep (rows spilled 0) (members (p .given) (rows outs b))) asked steps (p .steps) asked′ steps′ n) where
       abbrev t₁ : Tables
       t₁ = tables asked′ steps′ sizes (record { pointer = p .pointer; given = p .given; made = p .made; blocks = p .blocks; steps = n })

@@ -7,12 +7,12 @@ use native.Mathlib.Omega.{arith}
 use lib.ListN.{length, getD, set, length-set}
 use lib.Seq.{getD-set-same, getD-set-other}
 use lib.Dec.{eqb, eqb→eq}
-use Rattle.rules.specs.Records.{kind, recordCount}
+use Rattle.rules.specs.Records.{kind}
 use Rattle.rules.specs.File.{functionIn}
 use Rattle.rules.specs.declared.Record.{Record}
 use Rattle.lists.specs.Tests.{test-elim, neqb→ne}
 use Rattle.graph.specs.Between.{between, length-between}
-use Rattle.graph.specs.ByTable.{places-long, end-le, start-less}
+use Rattle.graph.specs.ByTable.{end-le, start-less}
 use Rattle.graph.specs.Sections.{placeIf, places}
 use Rattle.graph.specs.Tables.{Given}
 use Rattle.listing.specs.Crossings.{crossingsBelow}

@@ -2,7 +2,7 @@
 use Prim.Native.Nat.{ℕ, _+_, _*_, _≤_}
 use mathlib.Core.Path.{_≡_, ap, _∙_}
 use mathlib.Core.Bool.{false}
-use mathlib.Core.List.{List, [], map, append-nil}
+use mathlib.Core.List.{List, map, append-nil}
 use native.Mathlib.Omega.{arith}
 use lib.ListN.{length}
 use lib.Dec.{T}
@@ -29,10 +29,10 @@ use Rattle.numbering.specs.Beside.{blockPlanAt}
 use Rattle.numbering.specs.NewValues.{newValues}
 use Rattle.planning.specs.declared.Progress.{Progress}
 use Rattle.planning.specs.Operands.{Reading}
-use Rattle.planning.specs.Standing.{Tables, tables, noted, slotsBy, planOf}
+use Rattle.planning.specs.Standing.{Tables, tables, noted, slotsBy, planOf, Good}
 use Rattle.planning.specs.Walking.{good-less}
-use Rattle.spiller.specs.Noted.{Able}
-use Rattle.planner.specs.AllBlocks.{widths, Firsts, BlocksNoted, all-fit}
+use Rattle.spiller.specs.Noted.{SameBut, Able}
+use Rattle.planner.specs.AllBlocks.{Firsts, InBlocks, widths, BlocksNoted}
 use Rattle.planner.specs.BlockTables.{PlanTables}
 use Rattle.planner.specs.declared.functions.FunctionSize.{FunctionSize}
 
@@ -69,12 +69,6 @@ module _ {s places order firsts spilled table outs : List ℕ} {size : FunctionS
         listsRoom = g .listsRoom;
       }
 
-  -- the records of the reachable blocks are no more than the file's
-  pub given-fit : widths s (reachable (functionIn s)) ≤ recordCount s
-  given-fit =
-      all-fit s places order table outs firsts (size .reachable) (g .walked) given-tables (g .numbered)
-      (tables [] [] [] (record { pointer = 0; given = 0; made = 0; blocks = 0; steps = 0 })) []
-
 -- what is lent: zeros, with room for what every record of the file may make
 pub record PlanLent (s asked steps sizes numbers : List ℕ) : Type 0 where
   pub row : HasRow asked 0
@@ -93,12 +87,15 @@ unplanned pointer values blocks = record { pointer = pointer; given = values; ma
 pub record FunctionPlanned (s : List ℕ) (pointer : ℕ) (t t′ : Tables) (numbers numbers′ : List ℕ) : Type 0 where
   pub plan : planOf (functionIn s) t′ ≡ planned (functionIn s) pointer .1
   pub blocks : map (blockPlanAt s numbers′) (reachable (functionIn s)) ≡ planned (functionIn s) pointer .0
+  -- numbers stand beside records of reachable blocks only
+  pub elsewhere : SameBut (InBlocks s (reachable (functionIn s))) numbers numbers′
+  -- the tables have held it all
+  pub good : Good (functionIn s) t′ 0
+  pub samePointer : t′ .progress .pointer ≡ t .progress .pointer
   pub askedLong : length (t′ .asked) ≡ length (t .asked)
   pub stepsLong : length (t′ .steps) ≡ length (t .steps)
   pub sizesLong : length (t′ .sizes) ≡ length (t .sizes)
   pub long : length numbers′ ≡ length numbers
-  pub stepsNoted : t′ .progress .steps ≤ length (t′ .steps)
-  pub sizesNoted : t′ .progress .made ≤ length (t′ .sizes)
 
 module _ (s asked steps sizes numbers : List ℕ) (pointer values blocks : ℕ) (lent : PlanLent s asked steps sizes numbers)
     (are : values ≡ length (functionIn s .values)) (count : blocks ≡ length (functionIn s .blocks)) where
@@ -136,19 +133,19 @@ module _ (s asked steps sizes numbers : List ℕ) (pointer values blocks : ℕ) 
   unplanned-is = λ j. record { slots = noSlots; values = append-nil (f .values) j; blocks = count j }
 
   pub function-planned :
-      T (isAccepted (firstOf (fileRefusals s))) → widths s (reachable f) ≤ recordCount s → (t′ : Tables) (numbers′ : List ℕ)
+      (t′ : Tables) (numbers′ : List ℕ) → T (isAccepted (firstOf (fileRefusals s))) → widths s (reachable f) ≤ recordCount s
       → BlocksNoted s pointer (reachable f) t numbers t′ numbers′ → FunctionPlanned s pointer t t′ numbers numbers′
   unfolding planned
-  function-planned accepted fit t′ numbers′ a =
-      let left = a .kept .good 0 (good-less f t (recordCount s) (widths s (reachable f) + 0) (omega (arith, fit)) (unplanned-able accepted .good)) in
+  function-planned t′ numbers′ accepted fits a =
       let all = a .answer ∙ ap (forEach (planBlock f pointer) (reachable f)) unplanned-is in
       record {
         plan = ap (λ (x : List BlockPlan × Plan). x .1) all;
         blocks = ap (λ (x : List BlockPlan × Plan). x .0) all;
+        elsewhere = a .same;
+        good = a .kept .good 0 (good-less f t (recordCount s) (widths s (reachable f) + 0) (omega arith) (unplanned-able accepted .good));
+        samePointer = a .kept .pointer;
         askedLong = a .kept .askedLong;
         stepsLong = a .kept .stepsLong;
         sizesLong = a .kept .sizesLong;
         long = a .long;
-        stepsNoted = omega (arith, left .roomSteps);
-        sizesNoted = omega (arith, left .roomSizes);
       }

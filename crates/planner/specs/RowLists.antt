@@ -1,19 +1,18 @@
 -- THE LISTS OF A BLOCK'S INSTRUCTIONS, read off rows: what the rows of all safepoints give each instruction, by number, is its
 -- list.
-use Prim.Native.Nat.{ℕ, zero, suc, _+_, _<_, _≤_}
+use Prim.Native.Nat.{ℕ, zero, suc, _+_, _<_}
 use mathlib.Core.Path.{_≡_, refl, sym, ap, ap₂, subst, _∙_}
-use mathlib.Core.Bool.{Bool, true, false, _||_, cond}
+use mathlib.Core.Bool.{Bool, true, false, cond}
 use mathlib.Core.Option.{Option, none, some}
-use mathlib.Core.List.{List, [], _∷_, _++_, map}
+use mathlib.Core.List.{List, [], _∷_, map}
 use native.Mathlib.Omega.{arith}
-use lib.ListN.{length, getD, length-append}
+use lib.ListN.{length, getD}
 use lib.Dec.{T}
-use Rattle.rules.specs.Lists.{any, isNone, keep, orElse, concatMap, has, upFrom, members, zipWith, NumberSet}
+use Rattle.rules.specs.Lists.{any, isNone, keep, orElse, has, upFrom, members, zipWith, NumberSet}
 use Rattle.rules.specs.Tree.{Instruction, Function}
-use Rattle.rules.specs.Records.{encode, isSafepoint, recordAt}
 use Rattle.rules.specs.File.{instructionOf, functionIn}
 use Rattle.rules.specs.Liveness.{across, beforeAll, listsAmong, lists, isSpilled}
-use Rattle.lists.specs.Tests.{or-left, or-right, is-true}
+use Rattle.lists.specs.Tests.{or-left, or-right}
 use Rattle.graph.specs.Sections.{firstOr, sectionsAt}
 use Rattle.listing.specs.Across.{sectionAt}
 use Rattle.listing.specs.Crossings.{listed}

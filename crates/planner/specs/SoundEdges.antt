@@ -10,7 +10,7 @@ use lib.Dec.{T, eqb, eqb→eq, ltb, ltb→lt}
 use Rattle.rules.specs.Lists.{all, empty}
 use Rattle.rules.specs.Tree.{Edge, Function}
 use Rattle.rules.specs.Records.{encode, kind, recordAt, recordCount, records}
-use Rattle.rules.specs.File.{follows, ordered, ofKind, named, functionIn}
+use Rattle.rules.specs.File.{follows, ofKind, named, functionIn}
 use Rattle.rules.specs.Graph.{blockAt, sizeOf, instructionsOf}
 use Rattle.rules.specs.Refusals.{allInstructions, allEdges, definitions, uses, endsOnce, fit, safepointTerminator, onlyValues, soundEdge, soundInstruction, sound}
 use Rattle.rules.specs.declared.EdgeArgument.{EdgeArgument}
@@ -22,7 +22,7 @@ use Rattle.lists.specs.Maps.{all-apart, all-and, all-map, all-weaken}
 use Rattle.records.specs.InOrder.{chain}
 use Rattle.records.specs.Kinds.{Kinds}
 use Rattle.records.specs.Leading.{leading, arguments-lead, chain-behind}
-use Rattle.records.specs.Parts.{argument, inBody, isInstruction, body-allowed, targets-in-order}
+use Rattle.records.specs.Parts.{argument, inBody, body-allowed, targets-in-order}
 use Rattle.checks.specs.Fitting.{argumentsFirst, edgeFits, fitting, edgesFit, fitting-instructions}
 use Rattle.graph.specs.Between.{between, between-more, between-all, between-rest}
 use Rattle.graph.specs.Sections.{placeIf, places}

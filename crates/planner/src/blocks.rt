@@ -145,5 +145,16 @@ pub fn plan_block(
         numbers,
         slotted,
     );
-    plan_definitions(s, spilled, 3, start, front, asked, steps, sizes, numbers, done)
+    plan_definitions(
+        s,
+        spilled,
+        3,
+        start,
+        front,
+        asked,
+        steps,
+        sizes,
+        numbers,
+        done,
+    )
 }

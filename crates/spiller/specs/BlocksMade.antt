@@ -6,7 +6,7 @@ use mathlib.Core.Option.{Option, none, some}
 use mathlib.Core.List.{List, [], _∷_}
 use Rattle.rules.specs.Tree.{Function}
 use Rattle.rules.specs.Liveness.{isSpilled}
-use Rattle.rules.specs.Plan.{Plan, Made, Planning, pure, forEach, planStore, planDefinition, planLoad, planUse, planEdgeUse, planLanded}
+use Rattle.rules.specs.Plan.{Plan, Planning, pure, forEach, planStore, planDefinition, planLoad, planUse, planEdgeUse, planLanded}
 use Rattle.rules.specs.declared.EdgeArgument.{EdgeArgument}
 use Rattle.rules.specs.declared.EdgeArgument.the-variants as passes
 

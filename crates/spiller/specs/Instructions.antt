@@ -1,17 +1,14 @@
 -- ONE INSTRUCTION: what planning notes beside its records, run by run.
-use Prim.Native.Nat.{ℕ, suc, _+_, _-_, _<_, _≤_}
-use mathlib.Core.Path.{_≡_, refl, sym, ap, ap₂, subst, _∙_}
+use Prim.Native.Nat.{ℕ, suc, _+_, _-_}
+use mathlib.Core.Path.{_≡_, sym, ap, subst, _∙_}
 use mathlib.Core.Bool.{Bool, true, false, cond}
 use mathlib.Core.Option.{Option, none, some}
-use mathlib.Core.List.{List, [], _∷_, map}
+use mathlib.Core.List.{List, map}
 use native.Mathlib.Omega.{arith}
-use lib.ListN.{length, getD}
-use lib.Dec.{T, eqb, eqb→eq}
-use Rattle.rules.specs.Lists.{keep, members}
-use Rattle.rules.specs.Tree.{Edge, Instruction, Function}
-use Rattle.rules.specs.Records.{kind, recordAt, recordCount}
-use Rattle.rules.specs.File.{ofKind, named, edgesOf, instructionOf, functionIn}
-use Rattle.rules.specs.Plan.{Plan, Made, EdgePlan, InstructionPlan, Planning, forEach, planSlot, planDefinition, planUse, planInstruction}
+use lib.Dec.{eqb}
+use Rattle.rules.specs.Tree.{Instruction, Function}
+use Rattle.rules.specs.File.{named, instructionOf, functionIn}
+use Rattle.rules.specs.Plan.{Plan, Made, EdgePlan, InstructionPlan, forEach, planSlot, planDefinition, planUse, planInstruction}
 use Rattle.rules.specs.declared.Words.{Words}
 use Rattle.graph.specs.Between.{between}
 use Rattle.listing.specs.Across.{sectionAt}
@@ -19,8 +16,7 @@ use Rattle.numbering.specs.Beside.{madeAt, madesBetween, edgePlansAt, instructi
 use Rattle.planning.specs.Standing.{Tables, planOf, Kept, Ran}
 use Rattle.planning.specs.Walking.{kept-none, kept-more}
 use Rattle.spiller.specs.Edges.{edgeStep, EdgesNoted, edgesBetween}
-use Rattle.spiller.specs.Landings.{edgeKind}
-use Rattle.spiller.specs.Noted.{Within, Blank, Noted}
+use Rattle.spiller.specs.Noted.{Within, Noted}
 use Rattle.spiller.specs.Parted.{Parted, arguments-there, argument-places, results-there, result-places, edges-there, edges-are}
 use Rattle.spiller.specs.Spans.{edgePlaces}
 use Rattle.spiller.specs.Stable.{mades-same, edges-same}

@@ -1,12 +1,12 @@
 -- LANDINGS, record by record. In a landing each argument of the edge is loaded, or becomes a parameter of the size of the
 -- target's parameter at the same position; the target's parameters stand directly behind its record.
 use Prim.Native.Nat.{ℕ, zero, suc, _+_, _-_, _<_, _≤_}
-use mathlib.Core.Path.{_≡_, refl, sym, ap, ap₂, subst, _∙_}
+use mathlib.Core.Path.{_≡_, refl, sym, ap, subst, _∙_}
 use mathlib.Core.Bool.{Bool, true, false, not, _&&_, cond}
 use mathlib.Core.Option.{none, some}
 use mathlib.Core.List.{List, [], _∷_, _++_, map, append-assoc}
 use native.Mathlib.Omega.{arith}
-use lib.ListN.{length, getD, set, length-map, length-set}
+use lib.ListN.{length, getD, set, length-set}
 use lib.Dec.{T, eqb}
 use borrow.Author.Tests.{eq-eqb, ne-eqb}
 use Rattle.rules.specs.Lists.{zipWith}
@@ -14,7 +14,7 @@ use Rattle.rules.specs.Tree.{Value, Function}
 use Rattle.rules.specs.Records.{encode, kind, recordAt, recordCount, records}
 use Rattle.rules.specs.File.{ofKind, functionIn}
 use Rattle.rules.specs.Graph.{sizeOf}
-use Rattle.rules.specs.Plan.{Plan, Made, Planning, pure, newValue, forEach, planLanded, planEdgeUse}
+use Rattle.rules.specs.Plan.{Plan, Made, Planning, pure, newValue, forEach, planLanded}
 use Rattle.rules.specs.declared.EdgeArgument.{EdgeArgument}
 use Rattle.rules.specs.declared.EdgeArgument.the-variants as passes
 use Rattle.rules.specs.declared.Record.{Record}
@@ -28,7 +28,7 @@ use Rattle.numbering.specs.NewValues.{unmarked, newValues}
 use Rattle.planning.specs.declared.Progress.{Progress}
 use Rattle.planning.specs.Operands.{operandAt, useAt, useBy}
 use Rattle.planning.specs.declared.operands.Operand.the-variants as operand
-use Rattle.planning.specs.Standing.{Tables, tables, planOf, Good, Ran, mark, stepAt, walk, Walked}
+use Rattle.planning.specs.Standing.{Tables, tables, planOf, Good, mark, walk, Walked}
 use Rattle.planning.specs.Walking.{newValues-more, next-value, walked-some}
 use Rattle.planning.specs.Marks.{marks}
 use Rattle.lists.specs.Tests.{eqb-same}

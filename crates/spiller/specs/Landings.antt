@@ -2,7 +2,6 @@
 use Prim.Native.Nat.{ℕ, zero, suc, _+_, _-_, _<_, _≤_}
 use mathlib.Core.Path.{_≡_, refl, sym, ap, ap₂, subst, _∙_}
 use mathlib.Core.Bool.{Bool, true, false}
-use mathlib.Core.Option.{some}
 use mathlib.Core.List.{List, [], _∷_, map}
 use native.Mathlib.Omega.{arith}
 use native.Mathlib.Numerals.{add-one}
@@ -14,7 +13,7 @@ use Rattle.rules.specs.Tree.{Edge, Function}
 use Rattle.rules.specs.Records.{encode, kind, recordAt, recordCount, records}
 use Rattle.rules.specs.File.{ordered, ofKind, edgeOf, functionIn}
 use Rattle.rules.specs.Graph.{blockAt}
-use Rattle.rules.specs.Plan.{Plan, Made, EdgePlan, Planning, forEach, planLanding}
+use Rattle.rules.specs.Plan.{Plan, Made, forEach, planLanding}
 use Rattle.rules.specs.declared.EdgeArgument.{EdgeArgument}
 use Rattle.rules.specs.declared.Record.{Record}
 use Rattle.rules.specs.declared.Record.the-variants as record′
@@ -32,7 +31,7 @@ use Rattle.planning.specs.Operands.{Range}
 use Rattle.planning.specs.Standing.{Tables, tables, planOf, Known, Good, Kept, Walked}
 use Rattle.planning.specs.Walking.{kept-more}
 use Rattle.spiller.specs.BlocksMade.{landed-blocks}
-use Rattle.spiller.specs.Landed.{parameterAt, landedAt, zipped, ranLanded, walk-landed}
+use Rattle.spiller.specs.Landed.{landedAt, zipped, ranLanded, walk-landed}
 use Rattle.spiller.specs.Noted.{Within, Blank, Able, Noted}
 use Rattle.spiller.specs.ReadBack.{run-noted}
 

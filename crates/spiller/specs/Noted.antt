@@ -45,14 +45,6 @@ pub blank-kept :
     → Blank b numbers′
 blank-kept a b numbers numbers′ apart same blank i h = same i (apart i h) ∙ blank i h
 
--- an area in a larger one
-pub same-wider : (a b : ℕ → Type 0) (numbers numbers′ : List ℕ) → ((i : ℕ) → a i → b i) → SameBut a numbers numbers′ → SameBut b numbers numbers′
-same-wider a b numbers numbers′ inside same i out = same i (λ h. out (inside i h))
-
--- one step's numbers behind another's
-pub same-then : (a : ℕ → Type 0) (ns ms ks : List ℕ) → SameBut a ns ms → SameBut a ms ks → SameBut a ns ks
-same-then a ns ms ks one two i out = two i out ∙ one i out
-
 -- room for more is room for fewer
 pub able-less : (f : Function) (t : Tables) (n k : ℕ) → k ≤ n → Able f t n → Able f t k
 able-less f t n k l able = record { good = good-less f t n k l (able .good); fewBlocks = omega (arith, able .fewBlocks) }

@@ -1,15 +1,10 @@
 -- Whether an edge passes a spilled value, record by record; and an edge of a safepoint either way.
-use Prim.Native.Nat.{ℕ, suc, _+_, _-_, _<_, _≤_}
-use mathlib.Core.Path.{_≡_, refl, sym, ap, subst, _∙_}
+use Prim.Native.Nat.{ℕ, _+_, _-_, _<_, _≤_}
+use mathlib.Core.Path.{_≡_, refl, sym, ap, _∙_}
 use mathlib.Core.Bool.{Bool, true, false, _||_, cond}
-use mathlib.Core.Option.{none}
 use mathlib.Core.List.{List, [], _∷_, map}
-use native.Mathlib.Omega.{arith}
-use native.Mathlib.Numerals.{add-one}
-use lib.ListN.{length, getD}
-use lib.Dec.{T, eqb}
+use lib.Dec.{eqb}
 use Rattle.rules.specs.Lists.{any, NumberSet}
-use Rattle.rules.specs.Tree.{Function}
 use Rattle.rules.specs.Records.{encode, kind, recordAt, recordCount}
 use Rattle.rules.specs.File.{ofKind, functionIn}
 use Rattle.rules.specs.Graph.{valuesAmong}

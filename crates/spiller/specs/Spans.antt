@@ -2,9 +2,8 @@
 use Prim.Native.Nat.{ℕ, zero, suc, _+_, _-_, _<_, _≤_}
 use mathlib.Core.Path.{_≡_, refl, sym, ap, ap₂, subst, _∙_}
 use mathlib.Core.Bool.{Bool, true, false}
-use mathlib.Core.List.{List, [], _∷_, _++_, map}
+use mathlib.Core.List.{List, [], _∷_, _++_}
 use native.Mathlib.Omega.{arith}
-use lib.ListN.{length}
 use lib.Dec.{T, eqb, eqb→eq}
 use Rattle.rules.specs.Records.{encode, kind, recordAt, recordCount}
 use Rattle.rules.specs.File.{Section}

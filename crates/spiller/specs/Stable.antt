@@ -1,16 +1,16 @@
 -- What is read of the numbers beside some records depends on those numbers alone.
-use Prim.Native.Nat.{ℕ, zero, suc, _+_, _-_, _<_, _≤_}
-use mathlib.Core.Path.{_≡_, refl, sym, ap, ap₂, subst, _∙_}
+use Prim.Native.Nat.{ℕ, zero, suc, _+_, _-_, _≤_}
+use mathlib.Core.Path.{_≡_, refl, ap, ap₂, subst}
 use mathlib.Core.Bool.{Bool, true, false}
-use mathlib.Core.List.{List, [], _∷_, map}
+use mathlib.Core.List.{List, _∷_, map}
 use native.Mathlib.Omega.{arith}
-use lib.ListN.{length, getD}
+use lib.ListN.{getD}
 use lib.Dec.{T, eqb, eqb→eq}
 use Rattle.rules.specs.Records.{kind, recordAt, recordCount}
 use Rattle.rules.specs.Plan.{Made, EdgePlan}
 use Rattle.graph.specs.Between.{between, between-none, between-more, length-between}
 use Rattle.graph.specs.Sections.{placeIf, places, firstOr, first-bounds}
-use Rattle.numbering.specs.Beside.{made, madeAt, madesBetween, edgePlanAt, edgePlansAt}
+use Rattle.numbering.specs.Beside.{made, madeAt, madesBetween, edgePlansAt}
 use Rattle.spiller.specs.Landings.{edgeKind}
 use Rattle.spiller.specs.Noted.{Within}
 use Rattle.spiller.specs.Spans.{edgePlaces}

@@ -2,10 +2,9 @@
 ghost use mathlib.Core.Bool.{true};
 ghost use mathlib.Core.Path.{_≡_};
 ghost use mathlib.Core.List.{[], _∷_};
-ghost use Prim.Native.Nat.{suc, _+_, _-_, _<_, _≤_};
+ghost use Prim.Native.Nat.{_+_, _-_, _<_, _≤_};
 ghost use lib.ListN.{length};
-ghost use lib.Dec.{T, eqb};
-ghost use Rattle.rules.specs.Records.{encode, recordAt, recordCount, records};
+ghost use Rattle.rules.specs.Records.{encode, recordAt, recordCount};
 ghost use Rattle.rules.specs.File.{functionIn};
 ghost use Rattle.rules.specs.Liveness.{isSpilled};
 ghost use Rattle.rules.specs.Plan.{planLanding};

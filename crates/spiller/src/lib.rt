@@ -1,4 +1,4 @@
-// `SafepointSpiller`: slots and numbers for landings, instructions, blocks and a whole function, over lent tables.
+// `SafepointSpiller`, as far as one instruction: slots and numbers for landings, edges and instructions, over lent tables.
 pub mod edges;
 pub mod instructions;
 pub mod landings;

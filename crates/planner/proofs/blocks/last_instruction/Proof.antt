@@ -8,10 +8,6 @@ use mathlib.Core.List.{[]}
 use mathlib.Core.Path.{_≡_, sym, ap, subst, _∙_}
 use Rattle.planner.proofs.blocks.last_instruction.Statement.{statement}
 use Rattle.planner.proofs.blocks.last_instruction.Tie as tie
-use Rattle.planner.proofs.blocks.last_instruction.Reads as reads
-use Rattle.planner.proofs.blocks.last_instruction.Lts as lts
-use Rattle.records.proofs.kind_of.Reads as kind-of-reads
-use Rattle.records.proofs.record_at.Reads as record-at-reads
 
 abbrev Inv-loop : tie.InvT-loop
 Inv-loop s front end i₀ i = (front ≤ i) × (i ≤ end) × (headsFrom s i end ≡ [])

@@ -6,13 +6,6 @@ use mathlib.Core.Path.{ap, _∙_}
 use borrow.Author.Needs.{needs}
 use Rattle.planner.proofs.blocks.plan_block.Statement.{statement}
 use Rattle.planner.proofs.blocks.plan_block.Tie as tie
-use Rattle.planner.proofs.blocks.plan_block.Reads as reads
-use Rattle.planner.proofs.blocks.plan_block.Lts as lts
-use Rattle.listing.proofs.blocks.count_instructions.Reads as count-instructions-reads
-use Rattle.planner.proofs.blocks.plan_instructions.Reads as plan-instructions-reads
-use Rattle.planning.proofs.asks.ask_all.Reads as ask-all-reads
-use Rattle.planning.proofs.runs.plan_definitions.Reads as plan-definitions-reads
-use Rattle.spiller.proofs.instructions.run_end.Reads as run-end-reads
 
 -- src/blocks.rt:118:17
 mul-start : tie.Need-mul-start

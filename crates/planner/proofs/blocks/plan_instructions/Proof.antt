@@ -5,10 +5,6 @@ use native.Mathlib.Omega.{arith}
 use mathlib.Core.Path.{refl}
 use Rattle.planner.proofs.blocks.plan_instructions.Statement.{statement}
 use Rattle.planner.proofs.blocks.plan_instructions.Tie as tie
-use Rattle.planner.proofs.blocks.plan_instructions.Reads as reads
-use Rattle.planner.proofs.blocks.plan_instructions.Lts as lts
-use Rattle.planner.proofs.blocks.last_instruction.Reads as last-instruction-reads
-use Rattle.spiller.proofs.instructions.plan_instruction.Reads as plan-instruction-reads
 
 abbrev Inv-loop : tie.InvT-loop
 Inv-loop s places spilled lists block asked₀ steps₀ sizes₀ numbers₀ done₀ i₀ number₀ asked steps sizes numbers done i number = Back s lists (rows spilled 0) (block .front) (block .end) (block .behind) (done₀ .pointer) (tables asked₀ steps₀ sizes₀ done₀) numbers₀ i number (tables asked steps sizes done) numbers

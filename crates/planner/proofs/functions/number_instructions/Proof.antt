@@ -5,13 +5,10 @@ use Rattle.graph.specs.ByTable.{places-long, end-le, start-less}
 use Rattle.rules.specs.File.{functionIn}
 use lib.ListN.{length, getD}
 use native.Mathlib.Omega.{arith}
-use Prim.Native.Nat.{ℕ, _≤_, _-_}
-use mathlib.Core.Path.{_≡_, refl, sym, subst, _∙_}
+use Prim.Native.Nat.{_≤_, _-_}
+use mathlib.Core.Path.{_≡_, refl}
 use Rattle.planner.proofs.functions.number_instructions.Statement.{statement}
 use Rattle.planner.proofs.functions.number_instructions.Tie as tie
-use Rattle.planner.proofs.functions.number_instructions.Reads as reads
-use Rattle.planner.proofs.functions.number_instructions.Lts as lts
-use Rattle.listing.proofs.blocks.count_instructions.Reads as count-instructions-reads
 
 abbrev Inv-loop : tie.InvT-loop
 Inv-loop s places blocks firsts₀ first₀ b₀ firsts first b = (b ≤ blocks) × (first ≡ length (crossingsBelow (functionIn s) b)) × (first ≤ getD places b 0) × NumberedTo s b firsts₀ firsts

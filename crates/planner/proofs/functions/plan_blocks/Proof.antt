@@ -10,9 +10,6 @@ use Prim.Native.Nat.{_≤_, _-_}
 use mathlib.Core.Path.{refl}
 use Rattle.planner.proofs.functions.plan_blocks.Statement.{statement}
 use Rattle.planner.proofs.functions.plan_blocks.Tie as tie
-use Rattle.planner.proofs.functions.plan_blocks.Reads as reads
-use Rattle.planner.proofs.functions.plan_blocks.Lts as lts
-use Rattle.planner.proofs.blocks.plan_block.Reads as plan-block-reads
 
 abbrev Inv-loop : tie.InvT-loop
 Inv-loop s places order count firsts spilled lists outs asked₀ steps₀ sizes₀ numbers₀ done₀ i₀ asked steps sizes numbers done i = (i ≤ count) × BlocksNoted s (done₀ .pointer) (take i (reachable (functionIn s))) (tables asked₀ steps₀ sizes₀ done₀) numbers₀ (tables asked steps sizes done) numbers

@@ -3,9 +3,6 @@ use Rattle.spiller.specs.Spans.{found-none, found-some, found-behind}
 use borrow.Author.Needs.{needs}
 use Rattle.spiller.proofs.edges.next_edge_place.Statement.{statement}
 use Rattle.spiller.proofs.edges.next_edge_place.Tie as tie
-use Rattle.spiller.proofs.edges.next_edge_place.Reads as reads
-use Rattle.spiller.proofs.edges.next_edge_place.Lts as lts
-use Rattle.graph.proofs.edges.next_edge.Reads as next-edge-reads
 
 -- src/edges.rt:24:9
 next-edge-requires : tie.Need-next-edge-requires

@@ -1,17 +1,11 @@
 use Prim.Native.Nat.{_+_, _-_}
 use Rattle.rules.specs.File.{functionIn}
 use Rattle.planning.specs.Walking.{good-less}
-use Rattle.spiller.specs.Edges.{EdgeNoted, edge-used}
+use Rattle.spiller.specs.Edges.{edge-used}
 use native.Mathlib.Omega.{arith}
-use mathlib.Core.Bool.{Bool, true, false}
-use mathlib.Core.Path.{_≡_, subst}
 use borrow.Author.Needs.{needs}
 use Rattle.spiller.proofs.edges.plan_edge.Statement.{statement}
 use Rattle.spiller.proofs.edges.plan_edge.Tie as tie
-use Rattle.spiller.proofs.edges.plan_edge.Reads as reads
-use Rattle.spiller.proofs.edges.plan_edge.Lts as lts
-use Rattle.planning.proofs.runs.plan_uses.Reads as plan-uses-reads
-use Rattle.spiller.proofs.landings.plan_safepoint_edge.Reads as plan-safepoint-edge-reads
 
 -- src/edges.rt:49:9
 plan-safepoint-edge-requires : tie.Need-plan-safepoint-edge-requires

@@ -3,13 +3,9 @@ use Rattle.spiller.specs.Edges.{EdgesDone, edges-begun, edge-ready, edge
 use Rattle.planning.specs.Standing.{tables}
 use native.Mathlib.Omega.{arith}
 use Prim.Native.Nat.{_-_}
-use mathlib.Core.Path.{_≡_, refl, subst}
+use mathlib.Core.Path.{_≡_, refl}
 use Rattle.spiller.proofs.edges.plan_edges.Statement.{statement}
 use Rattle.spiller.proofs.edges.plan_edges.Tie as tie
-use Rattle.spiller.proofs.edges.plan_edges.Reads as reads
-use Rattle.spiller.proofs.edges.plan_edges.Lts as lts
-use Rattle.spiller.proofs.edges.next_edge_place.Reads as next-edge-place-reads
-use Rattle.spiller.proofs.edges.plan_edge.Reads as plan-edge-reads
 
 abbrev Inv-loop : tie.InvT-loop
 Inv-loop s places spilled safepoint start end asked₀ steps₀ sizes₀ numbers₀ done₀ i₀ asked steps sizes numbers done i = EdgesDone s (done₀ .pointer) safepoint start (tables asked₀ steps₀ sizes₀ done₀) numbers₀ end i (tables asked steps sizes done) numbers

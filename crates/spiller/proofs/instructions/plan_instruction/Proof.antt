@@ -5,12 +5,6 @@ use mathlib.Core.Path.{sym, ap, _∙_}
 use borrow.Author.Needs.{needs}
 use Rattle.spiller.proofs.instructions.plan_instruction.Statement.{statement}
 use Rattle.spiller.proofs.instructions.plan_instruction.Tie as tie
-use Rattle.spiller.proofs.instructions.plan_instruction.Reads as reads
-use Rattle.spiller.proofs.instructions.plan_instruction.Lts as lts
-use Rattle.listing.proofs.instructions.is_safepoint.Reads as is-safepoint-reads
-use Rattle.records.proofs.record_at.Reads as record-at-reads
-use Rattle.spiller.proofs.instructions.plan_plain.Reads as plan-plain-reads
-use Rattle.spiller.proofs.instructions.plan_safepoint.Reads as plan-safepoint-reads
 
 -- src/instructions.rt:130:21
 record-at-requires : tie.Need-record-at-requires

@@ -5,12 +5,6 @@ use mathlib.Core.Path.{_∙_}
 use borrow.Author.Needs.{needs}
 use Rattle.spiller.proofs.instructions.plan_plain.Statement.{statement}
 use Rattle.spiller.proofs.instructions.plan_plain.Tie as tie
-use Rattle.spiller.proofs.instructions.plan_plain.Reads as reads
-use Rattle.spiller.proofs.instructions.plan_plain.Lts as lts
-use Rattle.planning.proofs.runs.plan_definitions.Reads as plan-definitions-reads
-use Rattle.planning.proofs.runs.plan_uses.Reads as plan-uses-reads
-use Rattle.spiller.proofs.edges.plan_edges.Reads as plan-edges-reads
-use Rattle.spiller.proofs.instructions.run_end.Reads as run-end-reads
 
 -- src/instructions.rt:61:27
 add-run-end : tie.Need-add-run-end

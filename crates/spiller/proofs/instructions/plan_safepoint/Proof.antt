@@ -2,16 +2,8 @@ use Rattle.spiller.specs.InstructionSteps.{results-ready, slots-ready, s
 use Rattle.planning.specs.Standing.{tables}
 use native.Mathlib.Omega.{arith}
 use mathlib.Core.Path.{_∙_}
-use borrow.Author.Needs.{needs}
 use Rattle.spiller.proofs.instructions.plan_safepoint.Statement.{statement}
 use Rattle.spiller.proofs.instructions.plan_safepoint.Tie as tie
-use Rattle.spiller.proofs.instructions.plan_safepoint.Reads as reads
-use Rattle.spiller.proofs.instructions.plan_safepoint.Lts as lts
-use Rattle.planning.proofs.asks.ask_all.Reads as ask-all-reads
-use Rattle.planning.proofs.runs.plan_definitions.Reads as plan-definitions-reads
-use Rattle.planning.proofs.runs.plan_uses.Reads as plan-uses-reads
-use Rattle.spiller.proofs.edges.plan_edges.Reads as plan-edges-reads
-use Rattle.spiller.proofs.instructions.run_end.Reads as run-end-reads
 
 -- src/instructions.rt:84:17
 add-first : tie.Need-add-first

@@ -6,10 +6,6 @@ use Prim.Native.Nat.{_≤_, _-_}
 use mathlib.Core.Path.{_≡_, refl, sym, ap, _∙_}
 use Rattle.spiller.proofs.instructions.run_end.Statement.{statement}
 use Rattle.spiller.proofs.instructions.run_end.Tie as tie
-use Rattle.spiller.proofs.instructions.run_end.Reads as reads
-use Rattle.spiller.proofs.instructions.run_end.Lts as lts
-use Rattle.records.proofs.kind_of.Reads as kind-of-reads
-use Rattle.records.proofs.record_at.Reads as record-at-reads
 
 abbrev Inv-loop : tie.InvT-loop
 Inv-loop s kind from end i₀ i = (from ≤ i) × (i ≤ end) × (runEnd s kind i end ≡ runEnd s kind from end)

@@ -4,10 +4,6 @@ use mathlib.Core.Path.{ap, _∙_}
 use borrow.Author.Needs.{needs}
 use Rattle.spiller.proofs.landings.is_word.Statement.{statement}
 use Rattle.spiller.proofs.landings.is_word.Tie as tie
-use Rattle.spiller.proofs.landings.is_word.Reads as reads
-use Rattle.spiller.proofs.landings.is_word.Lts as lts
-use Rattle.records.proofs.record_at.Reads as record-at-reads
-use Rattle.records.proofs.words_of.Reads as words-of-reads
 
 -- src/landings.rt:35:22
 record-at-requires : tie.Need-record-at-requires

@@ -3,10 +3,6 @@ use mathlib.Core.Path.{sym, ap, _∙_}
 use borrow.Author.Needs.{needs}
 use Rattle.spiller.proofs.landings.passes_at.Statement.{statement}
 use Rattle.spiller.proofs.landings.passes_at.Tie as tie
-use Rattle.spiller.proofs.landings.passes_at.Reads as reads
-use Rattle.spiller.proofs.landings.passes_at.Lts as lts
-use Rattle.planning.proofs.operands.among.Reads as among-reads
-use Rattle.planning.proofs.operands.operand_at.Reads as operand-at-reads
 
 -- src/landings.rt:102:26
 operand-at-requires : tie.Need-operand-at-requires

@@ -8,9 +8,6 @@ use Prim.Native.Nat.{_≤_, _-_}
 use mathlib.Core.Path.{_≡_, refl, sym, _∙_}
 use Rattle.spiller.proofs.landings.passes_spilled.Statement.{statement}
 use Rattle.spiller.proofs.landings.passes_spilled.Tie as tie
-use Rattle.spiller.proofs.landings.passes_spilled.Reads as reads
-use Rattle.spiller.proofs.landings.passes_spilled.Lts as lts
-use Rattle.spiller.proofs.landings.passes_at.Reads as passes-at-reads
 
 abbrev Inv-loop : tie.InvT-loop
 Inv-loop s spilled start end i₀ i = (start ≤ i) × (i ≤ end) × (passing (isSpilled (functionIn s)) (between s i end) ≡ passing (isSpilled (functionIn s)) (between s start end))

@@ -8,9 +8,6 @@ use Prim.Native.Nat.{_≤_, _-_}
 use mathlib.Core.Path.{_≡_}
 use Rattle.spiller.proofs.landings.plan_all_landed.Statement.{statement}
 use Rattle.spiller.proofs.landings.plan_all_landed.Tie as tie
-use Rattle.spiller.proofs.landings.plan_all_landed.Reads as reads
-use Rattle.spiller.proofs.landings.plan_all_landed.Lts as lts
-use Rattle.spiller.proofs.landings.plan_landed.Reads as plan-landed-reads
 
 abbrev Inv-loop : tie.InvT-loop
 Inv-loop s spilled first start end asked₀ steps₀ sizes₀ numbers₀ done₀ i₀ asked steps sizes numbers done i = (start ≤ i) × (i ≤ end) × Walked (functionIn s) (landedAt s (done₀ .pointer) start first) start (i - start) (tables asked₀ steps₀ sizes₀ done₀) numbers₀ (tables asked steps sizes done) numbers

@@ -6,12 +6,6 @@ use mathlib.Core.Path.{ap, _∙_, sym}
 use borrow.Author.Needs.{needs}
 use Rattle.spiller.proofs.landings.plan_landed.Statement.{statement}
 use Rattle.spiller.proofs.landings.plan_landed.Tie as tie
-use Rattle.spiller.proofs.landings.plan_landed.Reads as reads
-use Rattle.spiller.proofs.landings.plan_landed.Lts as lts
-use Rattle.planning.proofs.steps.plan_use.Reads as plan-use-reads
-use Rattle.records.proofs.values.size_of.Reads as size-of-reads
-use Rattle.records.proofs.values.words_from.Reads as words-from-reads
-use Rattle.spiller.proofs.landings.is_word.Reads as is-word-reads
 
 -- src/landings.rt:56:8
 is-word-requires : tie.Need-is-word-requires

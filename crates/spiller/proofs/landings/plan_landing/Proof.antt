@@ -7,11 +7,6 @@ use mathlib.Core.Path.{ap, _∙_}
 use borrow.Author.Needs.{needs}
 use Rattle.spiller.proofs.landings.plan_landing.Statement.{statement}
 use Rattle.spiller.proofs.landings.plan_landing.Tie as tie
-use Rattle.spiller.proofs.landings.plan_landing.Reads as reads
-use Rattle.spiller.proofs.landings.plan_landing.Lts as lts
-use Rattle.records.proofs.record_at.Reads as record-at-reads
-use Rattle.records.proofs.words_of.Reads as words-of-reads
-use Rattle.spiller.proofs.landings.plan_all_landed.Reads as plan-all-landed-reads
 
 -- src/landings.rt:142:22
 record-at-requires : tie.Need-record-at-requires

@@ -3,10 +3,6 @@ use mathlib.Core.Path.{sym, _∙_}
 use borrow.Author.Needs.{needs}
 use Rattle.spiller.proofs.landings.plan_safepoint_edge.Statement.{statement}
 use Rattle.spiller.proofs.landings.plan_safepoint_edge.Tie as tie
-use Rattle.spiller.proofs.landings.plan_safepoint_edge.Reads as reads
-use Rattle.spiller.proofs.landings.plan_safepoint_edge.Lts as lts
-use Rattle.spiller.proofs.landings.passes_spilled.Reads as passes-spilled-reads
-use Rattle.spiller.proofs.landings.plan_landing.Reads as plan-landing-reads
 
 -- src/landings.rt:172:35
 add-passes-spilled : tie.Need-add-passes-spilled
