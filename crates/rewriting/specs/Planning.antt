@@ -20,7 +20,7 @@ use Rattle.rules.specs.Plan.{Plan, planned}
 use Rattle.lists.specs.Tests.{is-true}
 use Rattle.graph.specs.Few.{records-few, values-few, blocks-few, instructions-few}
 use Rattle.graph.specs.Links.{Walked}
-use Rattle.graph.specs.ByTable.{place-at}
+use Rattle.graph.specs.ByTable.{place-at, places-long}
 use Rattle.graph.specs.Zeros.{Zeros, zeros-zeros}
 use Rattle.rows.specs.Rows.{rows, rowValues}
 use Rattle.listing.specs.Ascending.{length-lists-instructions}
@@ -84,6 +84,9 @@ module _ {s places order outs lists′ spilled : List ℕ} {found : Found} (h : 
   pub values-counted : getD places 0 0 ≡ length (f .values)
   values-counted = place-at s places (h .walked .given) 0 ∙ values-first s in-order
 
+  pub places-some : 0 < length places
+  places-some = let l = places-long s places (h .walked .given) in omega (arith, l)
+
   blocks-small : length (f .blocks) ≤ largestBlocks
   blocks-small = blocks-few s (accepted-is s (h .accepted) .readable .few)
 
@@ -137,6 +140,9 @@ module _ {s places order outs lists′ spilled : List ℕ} {found : Found} (h : 
     slots-replayed : slotsBy f (t′ .steps) (t′ .progress .steps) ≡ planned f pointer .1 .slots
     slots-replayed = ap (λ (p : Plan). p .slots) (a .plan)
 
+    steps-noted : t′ .progress .steps ≤ length (t′ .steps)
+    steps-noted = omega (arith, a .good .roomSteps)
+
     -- REPLAYING can begin
     pub replay-lent :
         (older tags sizes : List ℕ) → length (t′ .steps) ≤ length older → Zeros tags → rowValues ≤ length tags → rowValues ≤ length sizes
@@ -145,8 +151,8 @@ module _ {s places order outs lists′ spilled : List ℕ} {found : Found} (h : 
         let tree = accepted-tree s (h .accepted) in
         record {
           inOrder = is-true (ordered 0 (records s)) in-order;
-          inSteps = a .stepsNoted;
-          room = record { heads = omega arith; older = omega (arith, a .stepsNoted, o); tags = l; sizes = m };
+          inSteps = steps-noted;
+          room = record { heads = omega arith; older = omega (arith, steps-noted, o); tags = l; sizes = m };
           emptyHeads = zeros-zeros 5;
           emptyTags = blank;
           fitting = planned-fitting f (tree .in-file) (tree .some-block) pointer (t′ .steps) (t′ .progress .steps) slots-replayed (h .sized) values-small;
@@ -170,7 +176,7 @@ module _ {s places order outs lists′ spilled : List ℕ} {found : Found} (h : 
                 slotNumbers = λ v. ap (orElse 0) (g .tagged v ∙ ap (λ (x : StackSlots). x .slotOf v) slots-replayed);
                 plans = a .blocks;
               };
-          made-room = a .sizesNoted;
+          made-room = omega (arith, a .good .roomSizes);
           slots-room = omega (arith, g .few, g .long .sizes, room);
           slots-few = g .few;
           blocks-planned = ap (λ (p : Plan). p .blocks) (a .plan);

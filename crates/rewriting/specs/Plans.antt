@@ -28,7 +28,7 @@ use Rattle.agreement.specs.Accepted.{Accepted}
 use Rattle.agreement.specs.Growing.{Grown, nothing-kept, planned-costs, blockCost}
 use Rattle.demand3.specs.Totals.{planMost, cost-few}
 use Rattle.graph.specs.Few.{records-few, values-few, blocks-few, instructions-few}
-use Rattle.graph.specs.ByTable.{place-at}
+use Rattle.graph.specs.ByTable.{place-at, places-long}
 use Rattle.graph.specs.Zeros.{padded-own}
 use Rattle.rows.specs.Rows.{rows, rowValues, size}
 use Rattle.listing.specs.Ascending.{length-lists-instructions}
@@ -83,7 +83,7 @@ module _ {s places index lists′ numbers slots newSizes slotSizes : List ℕ} {
   in-order : T (ordered 0 (records s))
   in-order = h .tables .given .inOrder
 
-  records-small : recordCount s ≤ largestRecords
+  pub records-small : recordCount s ≤ largestRecords
   records-small = records-few s (accepted-is s (h .accepted) .readable .few)
 
   values-small : length (f .values) ≤ rowValues
@@ -99,6 +99,9 @@ module _ {s places index lists′ numbers slots newSizes slotSizes : List ℕ} {
 
   values-counted : getD places 0 0 ≡ length (f .values)
   values-counted = place-at s places (h .tables .given) 0 ∙ values-first s in-order
+
+  pub places-some : 0 < length places
+  places-some = let l = places-long s places (h .tables .given) in omega (arith, l)
 
   -- THE COUNT of records, by its parts.
   abbrev partsCount : (added entries : ℕ) → ℕ
@@ -180,8 +183,8 @@ module _ {s places index lists′ numbers slots newSizes slotSizes : List ℕ} {
   drop-zeros (suc k) (suc n) = let same : n - k ≡ suc n - suc k = omega arith in drop-zeros k n ∙ ap (λ (m : ℕ). replicate m 0) same
 
   pub outcome-written :
-      (count n : ℕ) → count ≡ recordsOf s pointer → recordBytes * count ≤ n → (r : ℕ) (out : List ℕ)
-      → Wrote (replicate n 0) (functionRun s places numbers slots (rows lists′) newSizes slotSizes (countsOf places found p)) r out
+      (count n : ℕ) → count ≡ recordsOf s pointer → recordBytes * count ≤ n → {r : ℕ} {lent out : List ℕ} → lent ≡ replicate n 0
+      → Wrote lent (functionRun s places numbers slots (rows lists′) newSizes slotSizes (countsOf places found p)) r out
       → Outcome s pointer n
       (record {
         verdict = verdict.Accepted;
@@ -193,7 +196,7 @@ module _ {s places index lists′ numbers slots newSizes slotSizes : List ℕ} {
         unchanged = false;
       })
       out
-  outcome-written count n c l r out w =
+  outcome-written count n c l {r} {lent} {out} blank w =
       let rs = functionRecords (rewritten f pointer) in
       let run = functionRun s places numbers slots (rows lists′) newSizes slotSizes (countsOf places found p) in
       let made : p .slots ≡ length (planned f pointer .1 .slots .made) =
@@ -201,7 +204,8 @@ module _ {s places index lists′ numbers slots newSizes slotSizes : List ℕ} {
       let landed : p .blocks - found .blocks .all ≡ planned f pointer .1 .blocks - length (f .blocks) =
       ap₂ (λ (a b : ℕ). a - b) (h .blocks-planned) (h .all-counted) in
       let padding : out ≡ padded n (bytes rs) =
-      w .front ∙ ap (λ (t : List ℕ). bytes run ++ t) (drop-zeros (room run) n ∙ ap (λ (k : ℕ). replicate (n - k) 0) (sym (length-bytes run)))
+      w .front
+      ∙ ap (λ (t : List ℕ). bytes run ++ t) (ap (drop (room run)) blank ∙ drop-zeros (room run) n ∙ ap (λ (k : ℕ). replicate (n - k) 0) (sym (length-bytes run)))
       ∙ ap (λ (xs : List Record). padded n (bytes xs)) (sym written-is) in
       outcome-accepted s pointer n (verdict-fits s pointer n (h .pointer-fine) (h .accepted) (h .sized) (h .changed) (omega (arith, c, l))) _
       (λ i.
