@@ -39,7 +39,9 @@ use Rattle.stackslots.specs.Planned.{planned-fitting}
 use Rattle.acceptance.specs.Survey.{accepted-is}
 use Rattle.rewriting.specs.declared.Found.{Found}
 use Rattle.rewriting.specs.declared.Planned.{Planned}
-use Rattle.rewriting.specs.Plans.{countsOf}
+use Rattle.rewriting.specs.Plans.{countsOf, PlanFound}
+use Rattle.rewriting.specs.Rows.{PointerFine, Spilling}
+use Rattle.rewriting.specs.Tables.{index-tables}
 use Rattle.rewriting.specs.Trees.{accepted-tree}
 use Rattle.rewriting.specs.Values.{values-first}
 
@@ -181,3 +183,59 @@ module _ {s places order outs lists′ spilled : List ℕ} {found : Found} (h : 
           slots-few = g .few;
           blocks-planned = ap (λ (p : Plan). p .blocks) (a .plan);
         }
+
+-- FROM WHAT IS FOUND to what can be planned, and from what is planned to what can be written.
+module _ {s places order index outs lists′ spilled : List ℕ} {found : Found} {pointer : ℕ} (h : Spilling s places order index outs lists′ spilled found pointer) where
+  pub plannable : Plannable s places order outs lists′ spilled found
+  plannable =
+      let r = h .rows-found in
+      record {
+        accepted = r .tables .accepted;
+        walked = r .tables .walked;
+        all-counted = r .tables .all-counted;
+        outs-long = r .outs-long;
+        live = r .live;
+        lists-long = r .lists-long;
+        listed-rows = r .listed-rows;
+        spilled-long = r .spilled-long;
+        spilled-row = r .spilled-row;
+        sized = h .sized;
+      }
+
+  pub plan-found :
+      {numbers slots newSizes slotSizes : List ℕ} {p : Planned} → RecordsPlanned s places lists′ found pointer numbers slots newSizes slotSizes p
+      → largestRecords ≤ length numbers → length newSizes ≡ 2 * largestRecords
+      → PlanFound s places index lists′ numbers slots newSizes slotSizes found p
+  plan-found {p = p} a long sizes =
+      let r = h .rows-found in
+      record {
+        accepted = r .tables .accepted;
+        tables = index-tables (r .tables);
+        all-counted = r .tables .all-counted;
+        lists-long = r .lists-long;
+        instructions = r .instructions;
+        visits = r .visits;
+        pushes = r .pushes;
+        pointer-fine = subst PointerFine (sym (a .pointed)) (h .pointer-fine);
+        sized = h .sized;
+        changed = h .changed;
+        plan = subst (PlanTables s _ _ lists′ _ _ (countsOf places found p)) (sym (a .pointed)) (a .plan);
+        numbers-long = long;
+        made-room = a .made-room;
+        made-few = omega (arith, a .made-room, sizes);
+        slots-room = a .slots-room;
+        slots-few = a .slots-few;
+        blocks-planned = a .blocks-planned ∙ ap (λ (x : ℕ). planned (functionIn s) x .1 .blocks) (sym (a .pointed));
+      }
+
+-- tables of a service's own
+pub own-lent : PlanLent (replicate largestRecords 0) (replicate largestValues 0) (replicate (2 * largestRecords) 0) (replicate largestValues 0)
+own-lent =
+    record {
+      blank-numbers = zeros-zeros largestRecords;
+      numbers-long = omega (arith, length-replicate {A = ℕ} largestRecords 0);
+      blank-slots = zeros-zeros largestValues;
+      slots-long = omega (arith, length-replicate {A = ℕ} largestValues 0);
+      newSizes-long = length-replicate {A = ℕ} (2 * largestRecords) 0;
+      slotSizes-long = omega (arith, length-replicate {A = ℕ} largestValues 0);
+    }
