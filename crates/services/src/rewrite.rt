@@ -6,7 +6,7 @@ ghost use lib.ListN.{length, replicate};
 ghost use Rattle.rules.specs.Services.{rewritingAnswer, rewritingOutput};
 ghost use Rattle.acceptance.specs.Survey.{Indexed};
 ghost use Rattle.rewriting.specs.Answers.{refusedBy, Outcome};
-ghost use Rattle.rewriting.specs.Rows.{LiveRows, PointerFine, Spilling};
+ghost use Rattle.rewriting.specs.Rows.{LiveRows, PointerFine};
 use crate::clearing::clear_bytes;
 use crate::tables::live_tables;
 use acceptance::survey::BlockCounts;
@@ -14,6 +14,7 @@ use acceptance::survey::survey;
 use acceptance::verdict::is_accepted;
 use listing::blocks::list_safepoints;
 use rewriting::Found;
+use rewriting::spilled::rewrite_spilled;
 use rows::count;
 use rules::LARGEST_BLOCKS;
 use rules::LARGEST_INSTRUCTIONS;
@@ -48,24 +49,6 @@ fn is_pointer_size(pointer: u32) -> bool
         return true;
     }
     pointer == 8
-}
-
-fn rewrite_spilled(
-    s: &[u8],
-    places: &[usize],
-    order: &[usize],
-    index: &[usize],
-    outs: &[u64],
-    lists: &[u64],
-    spilled: &[u64],
-    found: Found,
-    pointer: u32,
-    out: &mut [u8],
-) -> RewritingAnswer
-    requires { ⌜ Spilling (now s) (now places) (now order) (now index) (now outs) (now lists) (now spilled) found pointer × (now out ≡ replicate (length (now out)) 0) ⌝ }
-    ensures { λ r. ⌜ Outcome (now (s .entry)) pointer (length (now (out .entry))) r (now (out .exit)) ⌝ }
-{
-    refused(Verdict::TooShort)
 }
 
 // The answer for a file that was surveyed and not refused, from its live sets and lists: refusal 9, unchanged, or what is
