@@ -17,8 +17,9 @@ fn main() {
     let verdict = answer.verdict;
     if !is_accepted(verdict) {
         let line = refused_line(verdict);
+        let bytes = line.bytes;
         let count = line.count;
-        io::write_all(STDOUT_FILENO, &line.bytes[..count]);
+        io::write_all(STDOUT_FILENO, &bytes[..count]);
         return;
     }
     io::write_all(STDOUT_FILENO, final_records(answer, &input[..n], &output));

@@ -120,12 +120,12 @@ fn verdict_of(refusal: u32) -> Verdict
 // The final records of an answer, whatever its numbers are: how many bytes they are at the front of the input, where it
 // says "unchanged" by any number but 0, else at the front of the output.
 #[no_mangle]
-pub extern "C" fn threshskiff_final(
+pub extern "C" fn threshskiff_final<'a>(
     refusal: u32,
     records: u32,
     unchanged: u32,
-    input: &[u8],
-    output: &[u8],
+    input: &'a [u8],
+    output: &'a [u8],
 ) -> usize
     ensures { λ r. ⌜ r ≡ length (finalRecords (answerOf refusal records unchanged) (now (input .entry)) (now (output .entry))) ⌝ }
 {
