@@ -1,6 +1,6 @@
 // What the program does with the bytes it has read, up to the writing.
 ghost use mathlib.Core.Path.{_≡_};
-ghost use Prim.Native.Nat.{_<_};
+ghost use Prim.Native.Nat.{_≤_};
 ghost use lib.ListN.{length, take};
 ghost use Rattle.rules.specs.Refusals.{refusalNumber};
 ghost use Rattle.rules.specs.Services.{refusedLine};
@@ -39,7 +39,7 @@ pub fn respond(s: &[u8], out: &mut [u8]) -> RewritingAnswer
 
 // The line that says which refusal was given.
 pub fn refused_line(verdict: Verdict) -> Line
-    ensures { λ r. ⌜ (take (r .count) (r .bytes) ≡ refusedLine (refusalNumber verdict)) × (r .count < 12) ⌝ }
+    ensures { λ r. ⌜ (take (r .count) (r .bytes) ≡ refusedLine (refusalNumber verdict)) × (r .count ≤ length (r .bytes)) ⌝ }
 {
     let n = refusal_number(verdict);
     let mut bytes = *b"refused \0\0\0\0\0\0\0\0";
