@@ -1,5 +1,6 @@
 pub mod Finals
-pub mod Live
+pub mod Impostors
 pub mod ListRow
+pub mod Live
 pub mod Outcomes
 pub mod Program

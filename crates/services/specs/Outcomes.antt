@@ -7,10 +7,11 @@ use lib.Dec.{T}
 use Rattle.rules.specs.File.{functionIn}
 use Rattle.rules.specs.Refusals.{firstOf, fileRefusals}
 use Rattle.rules.specs.Services.{livenessAnswer, livenessIns, livenessOuts, listAnswer, listWords}
-use Rattle.rules.specs.Services.{isAccepted, isUnchanged, rewritingVerdict, rewritingAnswer}
+use Rattle.rules.specs.Services.{isAccepted, isUnchanged, rewritingVerdict, rewritingAnswer, rewritingOutput, finalRecords}
 use Rattle.rules.specs.declared.Verdict.{Verdict}
 use Rattle.rules.specs.declared.LivenessAnswer.{LivenessAnswer}
 use Rattle.rules.specs.declared.ListAnswer.{ListAnswer}
+use Rattle.rules.specs.declared.RewritingAnswer.{RewritingAnswer}
 use Rattle.lists.specs.Tests.{is-false}
 
 -- what `check_file` may answer of a file
@@ -40,6 +41,25 @@ pub list-outcomes-equal :
     {s : List ℕ} {i n : ℕ} {a b : ListAnswer} {numbers numbers′ : List ℕ}
     → ListAllows s i n a numbers → ListAllows s i n b numbers′ → (a ≡ b) × (numbers ≡ numbers′)
 list-outcomes-equal x y = (x .answers ∙ sym (y .answers), x .words ∙ sym (y .words))
+
+-- what `rewrite` may leave of a file, a pointer size and a lent output
+pub record RewritingAllows (s : List ℕ) (pointer n : ℕ) (answer : RewritingAnswer) (out : List ℕ) : Type 0 where
+  pub answers : answer ≡ rewritingAnswer s pointer n
+  pub output : out ≡ rewritingOutput s pointer n
+
+pub rewriting-outcomes-equal :
+    {s : List ℕ} {pointer n : ℕ} {a b : RewritingAnswer} {out out′ : List ℕ}
+    → RewritingAllows s pointer n a out → RewritingAllows s pointer n b out′ → (a ≡ b) × (out ≡ out′)
+rewriting-outcomes-equal x y = (x .answers ∙ sym (y .answers), x .output ∙ sym (y .output))
+
+-- what `final_records` may hand back of an answer and two buffers
+abbrev pub FinalAllows : RewritingAnswer → List ℕ → List ℕ → List ℕ → Type 0
+FinalAllows answer input output part = part ≡ finalRecords answer input output
+
+pub final-outcomes-equal :
+    (answer : RewritingAnswer) (input output : List ℕ) {part part′ : List ℕ}
+    → FinalAllows answer input output part → FinalAllows answer input output part′ → part ≡ part′
+final-outcomes-equal answer input output a b = a ∙ sym b
 
 -- A refusal of rewriting is not "unchanged".
 pub refused-not-unchanged :
