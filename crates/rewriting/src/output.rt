@@ -57,7 +57,16 @@ pub fn write_planned(
     ensures { λ r. ⌜ Outcome (now (s .entry)) (planned .pointer) (length (now (out .entry))) r (now (out .exit)) ⌝ }
 {
     let records = count_records(
-        s, places, index, lists, numbers, slots, new_sizes, slot_sizes, found, planned,
+        s,
+        places,
+        index,
+        lists,
+        numbers,
+        slots,
+        new_sizes,
+        slot_sizes,
+        found,
+        planned,
     );
     if out.len() < RECORD_BYTES * records {
         return RewritingAnswer {
@@ -79,7 +88,16 @@ pub fn write_planned(
         slots: planned.slots,
     };
     write_function(
-        s, places, index, numbers, slots, lists, new_sizes, slot_sizes, counts, out,
+        s,
+        places,
+        index,
+        numbers,
+        slots,
+        lists,
+        new_sizes,
+        slot_sizes,
+        counts,
+        out,
     );
     let live = found.live;
     RewritingAnswer {

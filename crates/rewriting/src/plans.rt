@@ -35,7 +35,8 @@ pub fn plan_records(
     let mut asked: [u64; ROW_WORDS] = [0; ROW_WORDS];
     let mut steps: [u32; LARGEST_VALUES + LARGEST_RECORDS] = [0; LARGEST_VALUES + LARGEST_RECORDS];
     let mut heads: [usize; SlotSize::LEN] = [0; SlotSize::LEN];
-    let mut older: [usize; LARGEST_VALUES + LARGEST_RECORDS] = [0; LARGEST_VALUES + LARGEST_RECORDS];
+    let mut older: [usize; LARGEST_VALUES + LARGEST_RECORDS] = [0; LARGEST_VALUES
+        + LARGEST_RECORDS];
     let blocks = found.blocks;
     let all = blocks.all;
     number_instructions(s, places, all, &mut firsts);
@@ -46,9 +47,28 @@ pub fn plan_records(
         reachable: blocks.reachable,
     };
     let p = plan_function(
-        s, places, order, &firsts, spilled, lists, outs, size, &mut asked, &mut steps, new_sizes, numbers,
+        s,
+        places,
+        order,
+        &firsts,
+        spilled,
+        lists,
+        outs,
+        size,
+        &mut asked,
+        &mut steps,
+        new_sizes,
+        numbers,
     );
-    let made = replay(s, &steps, p.steps, &mut heads, &mut older, slots, slot_sizes);
+    let made = replay(
+        s,
+        &steps,
+        p.steps,
+        &mut heads,
+        &mut older,
+        slots,
+        slot_sizes,
+    );
     Planned {
         pointer,
         made: p.made,

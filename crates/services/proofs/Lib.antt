@@ -2,4 +2,3 @@ pub mod Lines
 pub mod ListAnswers
 pub mod LiveAnswers
 pub mod RewriteAnswers
-pub mod Zeroed

@@ -1,6 +1,5 @@
 // The public services. Each takes any bytes, owns the tables that it needs, and asks nothing of its caller.
 pub mod check;
-mod clearing;
 pub mod finals;
 pub mod list;
 pub mod liveness;

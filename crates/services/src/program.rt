@@ -5,10 +5,10 @@ ghost use lib.ListN.{length, take};
 ghost use Rattle.rules.specs.Refusals.{refusalNumber};
 ghost use Rattle.rules.specs.Services.{refusedLine};
 ghost use Rattle.services.specs.Program.{programAnswer, programBuffer};
-use crate::clearing::clear_bytes;
 use crate::rewrite::refused;
 use crate::rewrite::rewrite;
 use acceptance::verdict::refusal_number;
+use buffers::clear_bytes;
 use rules::RewritingAnswer;
 use rules::Verdict;
 

@@ -21,8 +21,7 @@ same-length c = search needs
 
 returns : tie.Need-returns
 returns c =
-    let said = c .before .before .before .before .rewrite .ensures .0 in
-    (
+    let said = c .before .before .before .before .rewrite .ensures .0 in (
       c .refusal-number .ensures ∙ ap (λ (a : RewritingAnswer). refusalNumber (a .verdict)) said,
       (
         ap (λ (a : RewritingAnswer). a .records) said,

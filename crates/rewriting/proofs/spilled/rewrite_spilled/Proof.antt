@@ -50,8 +50,7 @@ same-length c = search needs
 returns : tie.Need-returns
 returns c =
     let A = c .before .before .before .before .before .before .before .before .before .before .before .before .before .before .before .before .before .before .before .before .before .before .before .before .before .args in
-    let own = c .before .before .before .before .before .before .before .before .before .before .before .before .plan-records .ensures .pointed in
-    (
+    let own = c .before .before .before .before .before .before .before .before .before .before .before .before .plan-records .ensures .pointed in (
       c .before .before .write-planned .ensures .0 ∙ ap (λ (x : ℕ). rewritingAnswer (A.s .now) x (length (A.out .now))) own,
       c .before .before .write-planned .ensures .1 ∙ ap (λ (x : ℕ). rewritingOutput (A.s .now) x (length (A.out .now))) own,
     )

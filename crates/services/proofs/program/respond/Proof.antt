@@ -5,11 +5,6 @@ use Rattle.services.proofs.Lines.{program-long, program-rewrites}
 use borrow.Author.Needs.{needs}
 use Rattle.services.proofs.program.respond.Statement.{statement}
 use Rattle.services.proofs.program.respond.Tie as tie
-use Rattle.services.proofs.program.respond.Reads as reads
-use Rattle.services.proofs.program.respond.Lts as lts
-use Rattle.services.proofs.clearing.clear_bytes.Reads as clear-bytes-reads
-use Rattle.services.proofs.rewrite.refused.Reads as refused-reads
-use Rattle.services.proofs.rewrite.rewrite.Reads as rewrite-reads
 
 clear-bytes-requires : tie.Need-clear-bytes-requires
 clear-bytes-requires c κs = search needs

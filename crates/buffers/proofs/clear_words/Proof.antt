@@ -1,11 +1,11 @@
--- `services::clearing::clear_words` meets its contract.
+-- `buffers::clear_words` meets its contract.
 use borrow.Author.Needs.{needs}
-use Rattle.services.proofs.Zeroed.{Zeroed, zeroed-none, zeroed-more, zeroed-all}
+use Rattle.buffers.proofs.Zeroed.{Zeroed, zeroed-none, zeroed-more, zeroed-all}
 use lib.ListN.{length}
 use native.Mathlib.Omega.{arith}
 use Prim.Native.Nat.{_-_}
-use Rattle.services.proofs.clearing.clear_words.Statement.{statement}
-use Rattle.services.proofs.clearing.clear_words.Tie as tie
+use Rattle.buffers.proofs.clear_words.Statement.{statement}
+use Rattle.buffers.proofs.clear_words.Tie as tie
 
 abbrev Inv-loop : tie.InvT-loop
 Inv-loop t₀ i₀ t i = Zeroed i t₀ t

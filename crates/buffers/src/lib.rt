@@ -25,12 +25,12 @@ pub fn clear_numbers(t: &mut [u32])
 }
 
 // Every byte becomes 0.
-pub fn clear_bytes(t: &mut [u8])
-    ensures { λ _. ⌜ now (t .exit) ≡ replicate (length (now (t .entry))) 0 ⌝ }
+pub fn clear_bytes(bytes: &mut [u8])
+    ensures { λ _. ⌜ now (bytes .exit) ≡ replicate (length (now (bytes .entry))) 0 ⌝ }
 {
-    let mut i: usize = 0;
-    while i < t.len() {
-        t[i] = 0;
-        i += 1;
+    let mut at: usize = 0;
+    while at < bytes.len() {
+        bytes[at] = 0;
+        at += 1;
     }
 }
