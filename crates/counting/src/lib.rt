@@ -1,7 +1,7 @@
 // How many records the rewritten function has, from the numbers planned for it and before anything is written.
 ghost use mathlib.Core.Path.{_≡_};
 ghost use Prim.Native.Nat.{_*_, _≤_, _<_};
-ghost use lib.ListN.{length, getD};
+ghost use lib.ListN.{length};
 ghost use Rattle.rules.specs.Lists.{upFrom};
 ghost use Rattle.rules.specs.Limits.{rowWords, largestRecords, largestBlocks, largestInstructions};
 ghost use Rattle.rules.specs.Records.{recordCount};

@@ -1,9 +1,9 @@
 -- One step noted and one value made, on the tables: what the plan that they stand for gets.
-use Prim.Native.Nat.{ℕ, suc, _+_, _*_, _/_, _%_, _<_, _≤_}
+use Prim.Native.Nat.{ℕ, _+_, _*_, _/_, _%_, _<_, _≤_}
 use mathlib.Core.Path.{_≡_, refl, sym, ap, ap₂, subst, _∙_}
 use mathlib.Core.Bool.{Bool, true, false, not, _||_, cond}
 use mathlib.Core.Option.{Option, none, some}
-use mathlib.Core.List.{List, [], _∷_, _++_, map, append-assoc}
+use mathlib.Core.List.{List, [], _∷_, _++_, append-assoc}
 use native.Mathlib.Omega.{arith}
 use native.Mathlib.Numerals.{add-one}
 use lib.ListN.{length, set, take, length-set}
@@ -12,7 +12,7 @@ use lib.Dec.{T, eqb, eqb-refl}
 use Rattle.rules.specs.Lists.{isNone, update, NumberSet, adding}
 use Rattle.rules.specs.Tree.{Value, Function}
 use Rattle.rules.specs.Graph.{sizeOf}
-use Rattle.rules.specs.Slots.{StackSlots, noSlots, giveSlot, freeSlot, slotFrom}
+use Rattle.rules.specs.Slots.{StackSlots, noSlots, giveSlot, slotFrom}
 use Rattle.lists.specs.Tests.{or-left, or-right}
 use Rattle.lists.specs.Maps.{map-append}
 use Rattle.lists.specs.Lack.{lack, one, lack-drop}

@@ -1,12 +1,12 @@
 -- The record at a place, on the tables: what it uses or defines is found, and its number noted.
 use Prim.Native.Nat.{ℕ, _+_, _*_, _<_}
-use mathlib.Core.Path.{_≡_, refl, sym, ap, _∙_}
+use mathlib.Core.Path.{_≡_, sym, ap, _∙_}
 use mathlib.Core.Option.{some}
 use mathlib.Core.List.{List}
-use lib.ListN.{length, set}
+use lib.ListN.{set}
 use Rattle.rules.specs.Tree.{Function}
 use Rattle.rules.specs.File.{functionIn}
-use Rattle.rules.specs.Plan.{Plan, planLoad, planDefinition}
+use Rattle.rules.specs.Plan.{planLoad, planDefinition}
 use Rattle.rows.specs.Rows.{rows, rowValues}
 use Rattle.planning.specs.declared.Progress.{Progress}
 use Rattle.planning.specs.declared.operands.Operand.{Operand}

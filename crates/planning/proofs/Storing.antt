@@ -1,5 +1,5 @@
 -- STORES. A spilled value that has been asked for is stored through an address, and its slot is free.
-use Prim.Native.Nat.{ℕ, suc, _+_, _*_, _<_}
+use Prim.Native.Nat.{ℕ, _+_, _*_, _<_}
 use mathlib.Core.Path.{_≡_, refl, sym, ap, subst, _∙_}
 use mathlib.Core.Bool.{true, not}
 use mathlib.Core.Option.{Option, none, some}
@@ -13,8 +13,8 @@ use Rattle.rules.specs.Tree.{Value, Function}
 use Rattle.rules.specs.Graph.{sizeOf}
 use Rattle.rules.specs.Liveness.{isSpilled}
 use Rattle.rules.specs.Slots.{StackSlots, freeSlot}
-use Rattle.rules.specs.Plan.{Plan, Made, planDefinition, planStore}
-use Rattle.sharing.specs.SlotSteps.{SlotStep, frees, freeOwn, taken}
+use Rattle.rules.specs.Plan.{planDefinition, planStore}
+use Rattle.sharing.specs.SlotSteps.{SlotStep, freeOwn, taken}
 use Rattle.rows.specs.Rows.{rows, rowValues}
 use Rattle.numbering.specs.NewValues.{unmarked, newValues}
 use Rattle.planning.specs.Standing.{Tables, tables, slotsBy, planOf, Good, Ran}

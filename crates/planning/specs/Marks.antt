@@ -1,6 +1,6 @@
 -- RUNS AS THE RULES SAY THEM. What is done beside the records of a kind, place by place, is the rules' step for each of
 -- them, and the numbers that it answers stand beside them.
-use Prim.Native.Nat.{ℕ, zero, suc, _+_, _-_, _<_, _≤_}
+use Prim.Native.Nat.{ℕ, zero, suc, _+_, _-_, _≤_}
 use mathlib.Core.Path.{_≡_, refl, sym, ap, subst, _∙_}
 use mathlib.Core.Logic.{_≢_}
 use mathlib.Core.Bool.{Bool, true, false, cond}
@@ -10,7 +10,7 @@ use native.Mathlib.Omega.{arith}
 use lib.Dec.{T, eqb}
 use borrow.Author.Tests.{ne-eqb}
 use Rattle.rules.specs.Tree.{Function}
-use Rattle.rules.specs.Records.{encode, kind, edgeArgument, recordAt, recordCount}
+use Rattle.rules.specs.Records.{encode, kind, recordAt, recordCount}
 use Rattle.rules.specs.File.{ofKind, named, functionIn}
 use Rattle.rules.specs.Plan.{Plan, Made, Planning, pure, forEach, planUse, planDefinition, planEdgeUse}
 use Rattle.rules.specs.declared.EdgeArgument.the-variants as passes
@@ -22,7 +22,7 @@ use Rattle.graph.specs.Between.{between, between-none, between-more}
 use Rattle.graph.specs.Sections.{placeIf, places}
 use Rattle.planning.specs.declared.operands.Operand.the-variants as operand
 use Rattle.planning.specs.Standing.{Tables, planOf, mark, stepAt, walk, Walked}
-use Rattle.planning.specs.Operands.{operandOf, operandAt, useBy, useAt, defineBy, defineAt}
+use Rattle.planning.specs.Operands.{operandAt, useBy, useAt, defineBy, defineAt}
 
 -- numbers noted beside the records at these places
 abbrev pub marks : List ℕ → List Made → List ℕ → List ℕ

@@ -1,9 +1,8 @@
 -- Slots for a list of values, in the rules' words: a step of planning for each member.
-use Prim.Native.Nat.{ℕ, _+_, _≤_}
+use Prim.Native.Nat.{ℕ, _+_}
 use mathlib.Core.Path.{_≡_, refl, sym, ap, _∙_}
 use mathlib.Core.List.{List, [], _∷_}
 use native.Mathlib.Omega.{arith}
-use lib.ListN.{length}
 use Rattle.rules.specs.Tree.{Function}
 use Rattle.rules.specs.Slots.{StackSlots}
 use Rattle.rules.specs.Plan.{Plan, forEach, planSlot}

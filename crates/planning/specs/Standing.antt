@@ -2,10 +2,10 @@
 -- the file's and the new ones. Every function says what it does as one step of the rules' planning, `Ran`.
 use Prim.Native.Nat.{ℕ, zero, suc, _+_, _*_, _/_, _%_, _<_, _≤_}
 use mathlib.Core.Path.{_≡_}
-use mathlib.Core.Bool.{Bool, true, false, not, cond}
+use mathlib.Core.Bool.{not, cond}
 use mathlib.Core.Option.{none, some}
 use mathlib.Core.List.{List, [], _∷_, _++_, map}
-use lib.ListN.{length, getD, set, take}
+use lib.ListN.{length, set, take}
 use lib.Dec.{eqb}
 use Rattle.rules.specs.Limits.{largestRecords, largestValues}
 use Rattle.rules.specs.Lists.{keep, isNone, upFrom, update, NumberSet, adding}

@@ -1,17 +1,17 @@
 -- Steps beside records: none made, one made, and one run behind another.
-use Prim.Native.Nat.{ℕ, zero, suc, _+_, _-_, _*_, _<_, _≤_}
+use Prim.Native.Nat.{ℕ, zero, suc, _+_, _-_, _<_, _≤_}
 use mathlib.Core.Path.{_≡_, refl, sym, ap, subst, _∙_}
 use mathlib.Core.Option.{none, some}
-use mathlib.Core.List.{List, [], _∷_, _++_, map}
+use mathlib.Core.List.{List, [], _∷_, _++_}
 use native.Mathlib.Omega.{arith}
 use native.Mathlib.Numerals.{add-one}
 use lib.ListN.{length, take, set, length-append, length-map, length-set}
 use lib.Seq.{length-take-le, take-suc-set}
-use Rattle.rules.specs.Tree.{Value, Function}
+use Rattle.rules.specs.Tree.{Function}
 use Rattle.rules.specs.Plan.{Plan, Made, Planning}
 use Rattle.lists.specs.Maps.{map-append}
 use Rattle.numbering.specs.NewValues.{unmarked, newValues}
-use Rattle.planning.specs.Standing.{Tables, tables, planOf, Good, Kept, Ran, mark, stepAt, walk, Walked}
+use Rattle.planning.specs.Standing.{Tables, planOf, Good, Kept, Ran, mark, stepAt, walk, Walked}
 
 -- one new value more
 pub newValues-more : (sizes : List ℕ) (n x : ℕ) → n < length sizes → newValues (set sizes n x) (n + 1) ≡ newValues sizes n ++ (unmarked x ∷ [])

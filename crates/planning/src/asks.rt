@@ -1,10 +1,7 @@
 // Slots for the spilled values of a row, ascending: those in a block's live-out, and those on a safepoint's list.
-ghost use mathlib.Core.Path.{_≡_};
 ghost use Prim.Native.Nat.{_+_, _<_, _≤_};
-ghost use lib.ListN.{length};
 ghost use Rattle.rules.specs.Lists.{keep, members};
-ghost use Rattle.lists.specs.Lack.{lack, one};
-ghost use Rattle.rows.specs.Rows.{rows, rowValues, HasRow};
+ghost use Rattle.rows.specs.Rows.{rows, rowValues};
 ghost use Rattle.planning.specs.Standing.{Slotted, spilledFrom, Rows};
 use crate::steps::ask;
 use rows::contains;

@@ -1,8 +1,5 @@
 // Rules 3 and 1 for the records of a kind between two places, the first one first.
-ghost use mathlib.Core.Path.{_≡_};
-ghost use Prim.Native.Nat.{_-_, _≤_};
-ghost use lib.ListN.{length};
-ghost use Rattle.rules.specs.Records.{recordCount};
+ghost use Prim.Native.Nat.{_-_};
 ghost use Rattle.rules.specs.File.{functionIn};
 ghost use Rattle.planning.specs.Standing.{tables, Good, Walked};
 ghost use Rattle.planning.specs.Operands.{Reading, Range, useAt, defineAt};

@@ -1,24 +1,22 @@
 -- What follows from the rows that are found of an accepted file: how its tree is, which values are spilled, and the answers
 -- that need no plan.
-use Prim.Native.Nat.{ℕ, zero, suc, _-_, _*_, _/_, _≤_}
+use Prim.Native.Nat.{ℕ, zero, suc, _-_, _≤_}
 use mathlib.Core.Path.{_≡_, refl, sym, ap, subst, _∙_}
-use mathlib.Core.Bool.{Bool, true, false, not}
+use mathlib.Core.Bool.{Bool, true, false}
 use mathlib.Core.List.{List, [], _∷_}
 use native.Mathlib.Omega.{arith}
 use lib.ListN.{length, getD, replicate}
-use lib.Dec.{T, eqb, T-not}
-use Rattle.rules.specs.Limits.{recordBytes, largestRecords, rowWords}
-use Rattle.rules.specs.Lists.{empty, padded, NumberSet, members}
+use lib.Dec.{T}
+use Rattle.rules.specs.Limits.{largestRecords}
+use Rattle.rules.specs.Lists.{empty, padded, members}
 use Rattle.rules.specs.Tree.{Function}
 use Rattle.rules.specs.Records.{recordCount, records, bytes}
 use Rattle.rules.specs.File.{ordered, functionRecords, functionIn}
-use Rattle.rules.specs.Graph.{isMarked}
-use Rattle.rules.specs.Liveness.{isSpilled, process}
+use Rattle.rules.specs.Liveness.{isSpilled}
 use Rattle.rules.specs.Refusals.{spilledSize}
-use Rattle.rules.specs.Services.{isUnchanged, rewritingVerdict}
+use Rattle.rules.specs.Services.{isUnchanged}
 use Rattle.rules.specs.Plan.{Plan, planned}
 use Rattle.rules.specs.Rewriting.{rewritten}
-use Rattle.rules.specs.declared.RewritingAnswer.{RewritingAnswer}
 use Rattle.rules.specs.declared.Verdict.the-variants as verdict
 use Rattle.lists.specs.Tests.{is-true, is-false, test-elim}
 use Rattle.lists.specs.Members.{_∈_, not-∈-nil}
@@ -28,7 +26,7 @@ use Rattle.sharing.specs.Spilled.{spilled-marked}
 use Rattle.agreement.specs.Accepted.{Accepted}
 use Rattle.graph.specs.Few.{records-few, values-few}
 use Rattle.graph.specs.ByTable.{place-at, places-long}
-use Rattle.rows.specs.Rows.{rows, rowValues, size, size-members, HasRow}
+use Rattle.rows.specs.Rows.{rows, rowValues, size, size-members}
 use Rattle.planning.specs.Operands.{Reading}
 use Rattle.acceptance.specs.Survey.{accepted-is}
 use Rattle.rewriting.specs.declared.Found.{Found}

@@ -1,18 +1,17 @@
 -- What a plan is made from and what it leaves: the tables of planning and of the slots, put together.
-use Prim.Native.Nat.{ℕ, suc, _+_, _*_, _<_, _≤_}
+use Prim.Native.Nat.{ℕ, _+_, _*_, _<_, _≤_}
 use mathlib.Core.Path.{_≡_, refl, sym, ap, subst, _∙_}
-use mathlib.Core.Bool.{true, false}
-use mathlib.Core.Option.{Option}
-use mathlib.Core.List.{List, map}
+use mathlib.Core.Bool.{false}
+use mathlib.Core.List.{List}
 use native.Mathlib.Omega.{arith}
-use lib.ListN.{length, getD, take, replicate, length-replicate}
+use lib.ListN.{length, getD, replicate, length-replicate}
 use lib.Dec.{T}
 use Rattle.rules.specs.Limits.{largestRecords, largestValues, largestBlocks, largestInstructions, tableWords, rowWords}
 use Rattle.rules.specs.Lists.{orElse}
 use Rattle.rules.specs.Tree.{Function}
 use Rattle.rules.specs.Records.{recordCount, records}
 use Rattle.rules.specs.File.{ordered, functionIn}
-use Rattle.rules.specs.Liveness.{process, lists, isSpilled}
+use Rattle.rules.specs.Liveness.{process, isSpilled}
 use Rattle.rules.specs.Refusals.{firstOf, fileRefusals, spilledSize}
 use Rattle.rules.specs.Services.{isAccepted}
 use Rattle.rules.specs.Slots.{StackSlots}
@@ -26,15 +25,12 @@ use Rattle.rows.specs.Rows.{rows, rowValues}
 use Rattle.listing.specs.Ascending.{length-lists-instructions}
 use Rattle.listing.specs.Crossings.{listed}
 use Rattle.numbering.specs.Beside.{made}
-use Rattle.planning.specs.Standing.{Tables, tables, slotsBy, planOf}
-use Rattle.planning.specs.declared.Progress.{Progress}
-use Rattle.planner.specs.declared.functions.FunctionSize.{FunctionSize}
-use Rattle.planner.specs.AllBlocks.{Firsts}
+use Rattle.planning.specs.Standing.{Tables, tables, slotsBy}
 use Rattle.planner.specs.FirstNumbers.{NumberedTo, numbered-firsts}
 use Rattle.planner.specs.Functions.{PlanGiven, FunctionPlanned}
 use Rattle.planner.specs.Functions.{PlanLent as LentToPlanner}
 use Rattle.layout.specs.Whole.{PlanTables}
-use Rattle.stackslots.specs.Holders.{Lent, Replayed, holders, Room}
+use Rattle.stackslots.specs.Holders.{Lent, Replayed}
 use Rattle.stackslots.specs.Planned.{planned-fitting}
 use Rattle.acceptance.specs.Survey.{accepted-is}
 use Rattle.rewriting.specs.declared.Found.{Found}

@@ -1,16 +1,16 @@
 -- What is planned of a file, as tables: what the count of its records and the writing of them stand on, and the answers that
 -- follow.
 use Prim.Native.Nat.{ℕ, zero, suc, _+_, _-_, _*_, _^_, _<_, _≤_}
-use mathlib.Core.Path.{_≡_, refl, sym, ap, ap₂, _∙_}
+use mathlib.Core.Path.{_≡_, sym, ap, ap₂, _∙_}
 use mathlib.Core.Bool.{Bool, true, false}
-use mathlib.Core.List.{List, [], _++_, map}
+use mathlib.Core.List.{List, [], _++_}
 use native.Mathlib.Omega.{arith}
-use lib.ListN.{length, getD, take, drop, replicate, length-append, length-map, length-replicate}
+use lib.ListN.{length, getD, take, drop, replicate, length-append, length-map}
 use lib.Seq.{length-take-le}
 use lib.Dec.{T}
 use Rattle.rules.specs.Limits.{recordBytes, largestRecords, largestBlocks, largestInstructions, rowWords}
 use Rattle.rules.specs.Lists.{padded, upFrom}
-use Rattle.rules.specs.Tree.{Value, Function}
+use Rattle.rules.specs.Tree.{Function}
 use Rattle.rules.specs.Records.{IsBytes, recordCount, records, bytes}
 use Rattle.rules.specs.File.{ordered, functionRecords, functionIn}
 use Rattle.rules.specs.Graph.{reachable}
@@ -20,16 +20,13 @@ use Rattle.rules.specs.Services.{isAccepted, isUnchanged, recordsOf}
 use Rattle.rules.specs.Slots.{noSlots}
 use Rattle.rules.specs.Plan.{Plan, planned}
 use Rattle.rules.specs.Rewriting.{rewritten}
-use Rattle.rules.specs.declared.RewritingAnswer.{RewritingAnswer}
 use Rattle.rules.specs.declared.Record.{Record}
 use Rattle.rules.specs.declared.Verdict.the-variants as verdict
 use Rattle.fixpoint.specs.Sums.{sum}
-use Rattle.agreement.specs.Accepted.{Accepted}
 use Rattle.agreement.specs.Growing.{Grown, nothing-kept, planned-costs, blockCost}
 use Rattle.demand3.specs.Totals.{planMost, cost-few}
 use Rattle.graph.specs.Few.{records-few, values-few, blocks-few, instructions-few}
 use Rattle.graph.specs.ByTable.{place-at, places-long}
-use Rattle.graph.specs.Zeros.{padded-own}
 use Rattle.rows.specs.Rows.{rows, rowValues, size}
 use Rattle.listing.specs.Ascending.{length-lists-instructions}
 use Rattle.listing.specs.Crossings.{listed}
@@ -37,7 +34,6 @@ use Rattle.listing.specs.Tables.{IndexTables}
 use Rattle.numbering.specs.NewValues.{newValues}
 use Rattle.writing.specs.Wrote.{room, Wrote, length-bytes}
 use Rattle.layout.specs.declared.whole.Counts.{Counts}
-use Rattle.layout.specs.Laid.{BlockTables}
 use Rattle.layout.specs.Whole.{FunctionTables, PlanTables, functionRun, function-written}
 use Rattle.counting.specs.OfFile.{blocks-of-file}
 use Rattle.counting.specs.Totals.{blockAdded, records-counted}

@@ -1,8 +1,8 @@
 -- Values stand first in a file: there are as many as records in front of the first block.
-use Prim.Native.Nat.{ℕ, suc, _≤_}
+use Prim.Native.Nat.{ℕ, suc}
 use mathlib.Core.Path.{_≡_, refl, sym, ap, subst, _∙_}
-use mathlib.Core.Bool.{Bool, true, false, not}
-use mathlib.Core.List.{List, [], _∷_, _++_, map}
+use mathlib.Core.Bool.{not}
+use mathlib.Core.List.{List, [], _∷_, _++_}
 use native.Mathlib.Omega.{arith}
 use lib.ListN.{length, getD, length-map}
 use lib.Dec.{T, eqb, eqb→eq}
@@ -10,7 +10,6 @@ use Rattle.rules.specs.Lists.{all, concatMap}
 use Rattle.rules.specs.Records.{encode, kind, recordCount, records}
 use Rattle.rules.specs.File.{ordered, Section, Cut, cut, ofKind, function, functionIn}
 use Rattle.rules.specs.declared.Record.{Record}
-use Rattle.rules.specs.declared.Words.{Words}
 use Rattle.lists.specs.Tests.{and-intro, and-left, T-and, chosen, eqb-swap, passes-at}
 use Rattle.records.specs.Kinds.{Kinds, kinds-append, kinds-weaken, ofKind-stop}
 use Rattle.records.specs.InOrder.{whole, Sections, cut-joins, opened, chained}

@@ -1,11 +1,12 @@
 -- The line of a refusal, byte by byte, and the program's answer by the input's length.
 use Prim.Native.Nat.{ℕ, _+_, _/_, _%_, _<_, _≤_}
-use mathlib.Core.Path.{_≡_, refl, sym, ap, ap₂, _∙_}
+use mathlib.Core.Path.{_≡_, sym, ap, _∙_}
 use mathlib.Core.Bool.{Bool, true, false}
 use mathlib.Core.List.{List, [], _∷_, _++_}
 use native.Mathlib.Omega.{arith}
 use lib.ListN.{length, replicate}
 use borrow.Author.Tests.{lt-ltb, le-ltb}
+use Rattle.rules.specs.Lists.{padded}
 use Rattle.rules.specs.Limits.{programInput, programPointer}
 use Rattle.rules.specs.Refusals.{refusalNumber}
 use Rattle.rules.specs.Services.{refusedLine, rewritingAnswer, rewritingOutput}
@@ -13,7 +14,7 @@ use Rattle.rules.specs.declared.RewritingAnswer.{RewritingAnswer}
 use Rattle.rules.specs.declared.Verdict.{Verdict}
 use Rattle.rules.specs.declared.Verdict.the-variants as verdict
 use Rattle.rewriting.specs.Answers.{refusedBy}
-use Rattle.services.specs.Program.{programAnswer, programBuffer}
+use Rattle.services.specs.Program.{lineBytes, programAnswer, programBuffer}
 
 -- `refused ` and what follows
 abbrev pub refusedAnd : List ℕ → List ℕ
@@ -36,16 +37,26 @@ refusal-small verdict.TooShort = omega arith
 
 module _ (n : ℕ) where
   -- one digit
-  pub line-one : n < 10 → refusedAnd ((48 + n % 10) ∷ 10 ∷ []) ≡ refusedLine n
+  line-one : n < 10 → refusedAnd ((48 + n % 10) ∷ 10 ∷ []) ≡ refusedLine n
   line-one l =
       ap (λ (b : Bool). refusedAnd (elim b as (λ _. List ℕ) [ true ↦ [] | false ↦ (48 + n / 10) ∷ [] ] ++ ((48 + n % 10) ∷ 10 ∷ []))) (sym (lt-ltb n 10 l))
 
   -- two
-  pub line-two : 10 ≤ n → n < 12 → refusedAnd ((48 + n / 10 % 10) ∷ (48 + n % 10) ∷ 10 ∷ []) ≡ refusedLine n
+  line-two : 10 ≤ n → n < 12 → refusedAnd ((48 + n / 10 % 10) ∷ (48 + n % 10) ∷ 10 ∷ []) ≡ refusedLine n
   line-two l m =
       let tens : n / 10 % 10 ≡ n / 10 = omega arith in
       ap (λ (t : ℕ). refusedAnd ((48 + t) ∷ (48 + n % 10) ∷ 10 ∷ [])) tens
       ∙ ap (λ (b : Bool). refusedAnd (elim b as (λ _. List ℕ) [ true ↦ [] | false ↦ (48 + n / 10) ∷ [] ] ++ ((48 + n % 10) ∷ 10 ∷ []))) (sym (le-ltb n 10 l))
+
+  -- in sixteen bytes, with how many of them it is
+  abbrev pub InLine : List ℕ → ℕ → Type 0
+  InLine bytes count = (bytes ≡ padded lineBytes (refusedLine n)) × (count ≡ length (refusedLine n))
+
+  pub one-digit : n < 10 → InLine (padded lineBytes (refusedAnd ((48 + n % 10) ∷ 10 ∷ []))) 10
+  one-digit l = (ap (padded lineBytes) (line-one l), ap length (line-one l))
+
+  pub two-digits : 10 ≤ n → n < 12 → InLine (padded lineBytes (refusedAnd ((48 + n / 10 % 10) ∷ (48 + n % 10) ∷ 10 ∷ []))) 11
+  two-digits l m = (ap (padded lineBytes) (line-two l m), ap length (line-two l m))
 
 module _ (s : List ℕ) (n : ℕ) where
   -- an input that is too long

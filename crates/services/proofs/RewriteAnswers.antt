@@ -7,7 +7,7 @@ use lib.ListN.{replicate}
 use lib.Dec.{T, eqb}
 use Rattle.rules.specs.Lists.{all}
 use Rattle.rules.specs.Refusals.{refusalNumber, Refusal, firstOf, fileRefusals}
-use Rattle.rules.specs.Services.{isAccepted, needed}
+use Rattle.rules.specs.Services.{isAccepted}
 use Rattle.rules.specs.declared.Verdict.{Verdict}
 use Rattle.rules.specs.declared.Verdict.the-variants as verdict
 use Rattle.lists.specs.Tests.{and-left, and-right, is-false}

@@ -1,11 +1,11 @@
 -- PROGRAMS THAT THE CONTRACTS RULE OUT, each by what they say of one of document 01's sheets: one that refuses everything, is
 -- always unchanged, writes nothing, has one fixed output, invents visits, lists every marked value, or never shares slots.
 use Prim.Native.Nat.{ℕ}
-use mathlib.Core.Path.{_≡_, refl, sym, ap, _∙_}
-use mathlib.Core.Bool.{true, false}
-use mathlib.Core.List.{List, []}
+use mathlib.Core.Path.{_≡_, ap}
+use mathlib.Core.Bool.{false}
+use mathlib.Core.List.{List}
 use native.Mathlib.Omega.{arith}
-use lib.ListN.{length, getD, replicate}
+use lib.ListN.{getD, replicate}
 use Rattle.rules.specs.Records.{decode, recordAt, records, firstWords, bytes}
 use Rattle.rules.specs.File.{followers, follows, function, functionRecords}
 use Rattle.rules.specs.Graph.{reachable}
@@ -14,7 +14,7 @@ use Rattle.rules.specs.Refusals.{refusalNumber, fileRefusals}
 use Rattle.rules.specs.Slots.{giveSlot, freeSlot}
 use Rattle.rules.specs.Plan.{planned}
 use Rattle.rules.specs.Rewriting.{rewritten}
-use Rattle.rules.specs.Services.{listVerdict, listAnswer, listWords, recordsOf, rewritingVerdict, rewritingAnswer, rewritingOutput}
+use Rattle.rules.specs.Services.{listVerdict, listAnswer, recordsOf, rewritingVerdict, rewritingAnswer, rewritingOutput}
 use Rattle.rules.specs.SheetFiles.{file, p1, p2, p3, p5}
 use Rattle.rules.specs.declared.ListAnswer.{ListAnswer}
 use Rattle.rules.specs.declared.RewritingAnswer.{RewritingAnswer}

@@ -23,6 +23,7 @@ use rules::ROW_WORDS;
 use rules::TABLE_WORDS;
 use rules::Verdict;
 
+// A count of a row's values, in 32 bits.
 fn narrow(count: usize) -> u32
     requires { ⌜ count ≤ rowValues ⌝ }
     ensures { λ r. ⌜ r ≡ count ⌝ }

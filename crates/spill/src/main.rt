@@ -1,12 +1,11 @@
 // The program: a function file from standard input, rewritten for pointers of 8 bytes, to standard output.
-use acceptance::verdict::is_accepted;
 use libc::STDIN_FILENO;
 use libc::STDOUT_FILENO;
-use services::finals::final_records;
 use services::program::PROGRAM_INPUT;
 use services::program::PROGRAM_OUTPUT;
 use services::program::refused_line;
 use services::program::respond;
+use services::program::to_write;
 
 fn main() {
     // One byte more than the largest input, so that a longer one is told.
@@ -15,12 +14,11 @@ fn main() {
     let n = io::read_full(STDIN_FILENO, &mut input);
     let answer = respond(&input[..n], &mut output);
     let verdict = answer.verdict;
-    if !is_accepted(verdict) {
-        let line = refused_line(verdict);
-        let bytes = line.bytes;
-        let count = line.count;
-        io::write_all(STDOUT_FILENO, &bytes[..count]);
-        return;
-    }
-    io::write_all(STDOUT_FILENO, final_records(answer, &input[..n], &output));
+    let line = refused_line(verdict);
+    let bytes = line.bytes;
+    let count = line.count;
+    io::write_all(
+        STDOUT_FILENO,
+        to_write(answer, &input[..n], &output, &bytes[..count]),
+    );
 }

@@ -17,7 +17,7 @@ use Rattle.rules.specs.Plan.{Plan, Made, Planning, forEach, planUse, planDefini
 use Rattle.rules.specs.declared.Record.{Record}
 use Rattle.rules.specs.declared.Words.{Words}
 use Rattle.lists.specs.Tests.{eqb-same}
-use Rattle.records.specs.Parts.{second, argument}
+use Rattle.records.specs.Parts.{argument}
 use Rattle.graph.specs.Between.{between, between-none, between-more}
 use Rattle.graph.specs.Sections.{placeIf, places}
 use Rattle.numbering.specs.Beside.{made, tag, made-tag, madeAt, madesBetween}

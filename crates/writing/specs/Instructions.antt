@@ -10,7 +10,6 @@ use Rattle.rules.specs.File.{Cut, named, edgeOf, edgesOf, itemRecords, function
 use Rattle.rules.specs.Graph.{sizeOf}
 use Rattle.rules.specs.Plan.{EdgePlan}
 use Rattle.rules.specs.Rewriting.{operand, storeItems, loadItems}
-use Rattle.rules.specs.declared.Record.{Record}
 use Rattle.rules.specs.declared.Record.the-variants as record′
 use Rattle.graph.specs.Between.{between}
 use Rattle.graph.specs.Sections.{firstOr, cut-between}

@@ -1,8 +1,8 @@
 -- The next record of a kind, by its place: where a part of a block or of an instruction ends.
 use Prim.Native.Nat.{ℕ, suc, _-_, _+_, _<_, _≤_}
 use mathlib.Core.Path.{_≡_, refl, sym, ap, _∙_}
-use mathlib.Core.Bool.{Bool, true, false}
-use mathlib.Core.List.{List, []}
+use mathlib.Core.Bool.{Bool}
+use mathlib.Core.List.{List}
 use native.Mathlib.Omega.{arith}
 use native.Mathlib.Numerals.{add-one}
 use lib.Dec.{eqb, eqb→eq, not-T}

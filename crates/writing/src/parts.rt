@@ -2,7 +2,7 @@
 ghost use mathlib.Core.Path.{_≡_};
 ghost use mathlib.Core.Bool.{true};
 ghost use mathlib.Core.List.{_∷_, [], map};
-ghost use Rattle.rules.specs.Records.{records, edgeArgument};
+ghost use Rattle.rules.specs.Records.{records};
 ghost use Rattle.rules.specs.File.{ordered, functionIn};
 ghost use Rattle.rules.specs.Graph.{sizeOf};
 ghost use Rattle.rules.specs.Rewriting.{operand, edgeOperand, wordsAmong, landingParameters, landedArgument, storeItems, loadItems, edgeLoadItems};

@@ -1,6 +1,6 @@
 // Records put at the front of the output and counted.
 ghost use mathlib.Core.List.{_∷_, []};
-ghost use Prim.Native.Nat.{_+_, _≤_, _<_};
+ghost use Prim.Native.Nat.{_+_, _≤_};
 ghost use lib.ListN.{length};
 ghost use Rattle.rules.specs.Limits.{recordBytes};
 ghost use Rattle.writing.specs.Parts.{recordsOf};

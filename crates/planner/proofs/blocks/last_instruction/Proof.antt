@@ -1,3 +1,4 @@
+-- `planner::blocks::last_instruction` meets its contract.
 use borrow.Author.Needs.{needs}
 use Rattle.planner.specs.Backward.{last-start, last-here, last-not, last-none}
 use Rattle.listing.specs.Stepping.{headsFrom}
@@ -15,35 +16,27 @@ Inv-loop s front end i₀ i = (front ≤ i) × (i ≤ end) × (headsFrom s i end
 abbrev μ-loop : tie.MeasureT-loop
 μ-loop s front end i₀ i = i
 
--- src/blocks.rt:36:5
 loop-holds : tie.Need-loop-holds Inv-loop μ-loop
 loop-holds c = (omega (arith, c .before .pre .0), omega arith, last-start (c .before .args .s .now) (c .before .args .front) (c .before .args .end) (c .before .pre .1))
 
--- src/blocks.rt:37:9
 sub-i : tie.Need-sub-i Inv-loop μ-loop
 sub-i c = search needs
 
--- src/blocks.rt:38:20
 record-at-requires : tie.Need-record-at-requires Inv-loop μ-loop
 record-at-requires c κs = search needs
 
--- src/blocks.rt:38:12
 kind-of-requires : tie.Need-kind-of-requires Inv-loop μ-loop
 kind-of-requires c κs = search needs
 
--- src/blocks.rt:39:13
 returns : tie.Need-returns Inv-loop μ-loop
 returns c = last-here (c .before .before .before .before .before .before .args .s .now) (c .before .before .before .before .before .before .args .front) (c .before .before .before .before .before .before .args .end) (c .before .before .before .before .before .before .pre .1) (c .before .before .before .before .loop .i) (c .before .before .before .loop-test .taken) (c .before .before .before .before .loop .inv .1) (c .before .before .before .before .loop .inv .2) (sym (c .before .kind-of .ensures .0 ∙ ap kind (c .before .before .record-at .ensures)) ∙ c .if1 .taken)
 
--- src/blocks.rt:36:5
 loop-less : tie.Need-loop-less Inv-loop μ-loop
 loop-less c = search needs
 
--- src/blocks.rt:36:5
 loop-again : tie.Need-loop-again Inv-loop μ-loop
 loop-again c = (omega (arith, c .before .before .before .loop-test .taken), omega (arith, c .before .before .before .before .loop .inv .1), last-not (c .before .before .before .before .before .before .args .s .now) (c .before .before .before .before .before .before .args .front) (c .before .before .before .before .before .before .args .end) (c .before .before .before .before .before .before .pre .1) (c .before .before .before .before .loop .i) (c .before .before .before .loop-test .taken) (c .before .before .before .before .loop .inv .1) (c .before .before .before .before .loop .inv .2) (λ h. c .if1 .left (c .before .kind-of .ensures .0 ∙ ap kind (c .before .before .record-at .ensures) ∙ h)))
 
--- src/blocks.rt:31:1
 returns-2 : tie.Need-returns-2 Inv-loop μ-loop
 returns-2 c =
     let there : c .before .loop .i ≡ c .before .before .before .args .front = omega (arith, c .loop-test .left, c .before .loop .inv .0) in

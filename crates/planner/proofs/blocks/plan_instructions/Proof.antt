@@ -1,3 +1,4 @@
+-- `planner::blocks::plan_instructions` meets its contract.
 use Rattle.planner.specs.Backward.{Back, back-start, first-there, back-number, back-ready, back-turn, back-end}
 use Rattle.planning.specs.Standing.{tables}
 use Rattle.rows.specs.Rows.{rows}
@@ -12,49 +13,38 @@ Inv-loop s places spilled lists block asked₀ steps₀ sizes₀ numbers₀ done
 abbrev μ-loop : tie.MeasureT-loop
 μ-loop s places spilled lists block asked₀ steps₀ sizes₀ numbers₀ done₀ i₀ number₀ asked steps sizes numbers done i number = i
 
--- src/blocks.rt:64:5
 loop-holds : tie.Need-loop-holds Inv-loop μ-loop
 loop-holds c = back-start (c .before .before .before .before .before .before .before .before .args .s .now) (c .before .before .before .before .before .before .before .before .args .lists .now) (rows (c .before .before .before .before .before .before .before .before .args .spilled .now) 0) (c .before .before .before .before .before .before .before .before .args .block .start) (c .before .before .before .before .before .before .before .before .args .block .front) (c .before .before .before .before .before .before .before .before .args .block .end) (c .before .before .before .before .before .before .before .before .args .block .behind) (c .before .before .before .before .before .before .before .before .pre .2) (c .before .before .before .before .before .before .before .before .args .p .pointer) (tables (c .before .before .before .before .before .before .before .before .args .asked .now) (c .before .before .before .before .before .before .before .before .args .steps .now) (c .before .before .before .before .before .before .before .before .args .sizes .now) (c .before .before .before .before .before .before .before .before .args .p)) (c .before .before .before .before .before .before .before .before .args .numbers .now)
 
--- src/blocks.rt:65:13
 last-instruction-requires : tie.Need-last-instruction-requires Inv-loop μ-loop
 last-instruction-requires c κs = (c .if1 .taken, omega (arith, c .before .before .loop .inv .high, c .before .before .before .before .before .before .before .before .before .before .before .pre .2 .block .inside), first-there (c .before .before .before .before .before .before .before .before .before .before .before .args .s .now) (c .before .before .before .before .before .before .before .before .before .before .before .args .lists .now) (rows (c .before .before .before .before .before .before .before .before .before .before .before .args .spilled .now) 0) (c .before .before .before .before .before .before .before .before .before .before .before .args .block .start) (c .before .before .before .before .before .before .before .before .before .before .before .args .block .front) (c .before .before .before .before .before .before .before .before .before .before .before .args .block .end) (c .before .before .before .before .before .before .before .before .before .before .before .args .block .behind) (c .before .before .before .before .before .before .before .before .before .before .before .pre .2) (c .before .before .before .before .before .before .before .before .before .before .before .args .p .pointer) (tables (c .before .before .before .before .before .before .before .before .before .before .before .args .asked .now) (c .before .before .before .before .before .before .before .before .before .before .before .args .steps .now) (c .before .before .before .before .before .before .before .before .before .before .before .args .sizes .now) (c .before .before .before .before .before .before .before .before .before .before .before .args .p)) (c .before .before .before .before .before .before .before .before .before .before .before .args .numbers .now) (c .before .before .loop .i) (c .before .before .loop .number) (c .if1 .taken) (tables (c .before .before .loop .asked) (c .before .before .loop .steps) (c .before .before .loop .sizes) (c .before .before .loop .done)) (c .before .before .loop .numbers) (c .before .before .loop .inv))
 
--- src/blocks.rt:66:9
 sub-number : tie.Need-sub-number Inv-loop μ-loop
 sub-number c = omega (arith, back-number (c .before .before .before .before .before .before .before .before .before .before .before .before .args .s .now) (c .before .before .before .before .before .before .before .before .before .before .before .before .args .lists .now) (rows (c .before .before .before .before .before .before .before .before .before .before .before .before .args .spilled .now) 0) (c .before .before .before .before .before .before .before .before .before .before .before .before .args .block .start) (c .before .before .before .before .before .before .before .before .before .before .before .before .args .block .front) (c .before .before .before .before .before .before .before .before .before .before .before .before .args .block .end) (c .before .before .before .before .before .before .before .before .before .before .before .before .args .block .behind) (c .before .before .before .before .before .before .before .before .before .before .before .before .pre .2) (c .before .before .before .before .before .before .before .before .before .before .before .before .args .p .pointer) (tables (c .before .before .before .before .before .before .before .before .before .before .before .before .args .asked .now) (c .before .before .before .before .before .before .before .before .before .before .before .before .args .steps .now) (c .before .before .before .before .before .before .before .before .before .before .before .before .args .sizes .now) (c .before .before .before .before .before .before .before .before .before .before .before .before .args .p)) (c .before .before .before .before .before .before .before .before .before .before .before .before .args .numbers .now) (c .before .before .before .loop .i) (c .before .before .before .loop .number) (c .before .if1 .taken) (tables (c .before .before .before .loop .asked) (c .before .before .before .loop .steps) (c .before .before .before .loop .sizes) (c .before .before .before .loop .done)) (c .before .before .before .loop .numbers) (c .before .before .before .loop .inv) (c .last-instruction .result) (c .last-instruction .ensures))
 
--- src/blocks.rt:72:9
 plan-instruction-requires : tie.Need-plan-instruction-requires Inv-loop μ-loop
 plan-instruction-requires c κs =
     let ready = back-ready (c .before .before .before .before .before .before .before .before .before .before .before .before .before .before .before .before .args .s .now) (c .before .before .before .before .before .before .before .before .before .before .before .before .before .before .before .before .args .lists .now) (rows (c .before .before .before .before .before .before .before .before .before .before .before .before .before .before .before .before .args .spilled .now) 0) (c .before .before .before .before .before .before .before .before .before .before .before .before .before .before .before .before .args .block .start) (c .before .before .before .before .before .before .before .before .before .before .before .before .before .before .before .before .args .block .front) (c .before .before .before .before .before .before .before .before .before .before .before .before .before .before .before .before .args .block .end) (c .before .before .before .before .before .before .before .before .before .before .before .before .before .before .before .before .args .block .behind) (c .before .before .before .before .before .before .before .before .before .before .before .before .before .before .before .before .pre .2) (c .before .before .before .before .before .before .before .before .before .before .before .before .before .before .before .before .args .p .pointer) (tables (c .before .before .before .before .before .before .before .before .before .before .before .before .before .before .before .before .args .asked .now) (c .before .before .before .before .before .before .before .before .before .before .before .before .before .before .before .before .args .steps .now) (c .before .before .before .before .before .before .before .before .before .before .before .before .before .before .before .before .args .sizes .now) (c .before .before .before .before .before .before .before .before .before .before .before .before .before .before .before .before .args .p)) (c .before .before .before .before .before .before .before .before .before .before .before .before .before .before .before .before .args .numbers .now) (c .before .before .before .before .before .before .before .loop .i) (c .before .before .before .before .before .before .before .loop .number) (c .before .before .before .before .before .if1 .taken) (tables (c .before .before .before .before .before .before .before .loop .asked) (c .before .before .before .before .before .before .before .loop .steps) (c .before .before .before .before .before .before .before .loop .sizes) (c .before .before .before .before .before .before .before .loop .done)) (c .before .before .before .before .before .before .before .loop .numbers) (c .before .before .before .before .before .before .before .loop .inv) (c .before .before .before .before .last-instruction .result) (c .before .before .before .before .last-instruction .ensures) (c .before .before .before .before .before .before .before .before .before .before .before .before .before .before .before .before .pre .3 .blank) (c .before .before .before .before .before .before .before .before .before .before .before .before .before .before .before .before .pre .3 .long) (c .before .before .before .before .before .before .before .before .before .before .before .before .before .before .before .before .pre .3 .able) in
     (c .before .before .before .before .before .before .before .before .before .before .before .before .before .before .before .before .pre .0, c .before .before .before .before .before .before .before .before .before .before .before .before .before .before .before .before .pre .1, ready .0, ready .1, ready .2)
 
--- src/blocks.rt:64:5
 loop-less : tie.Need-loop-less Inv-loop μ-loop
 loop-less c = c .before .before .before .before .before .before .before .before .before .before .before .before .before .last-instruction .ensures .high
 
--- src/blocks.rt:64:5
 loop-again : tie.Need-loop-again Inv-loop μ-loop
 loop-again c = back-turn (c .before .before .before .before .before .before .before .before .before .before .before .before .before .before .before .before .before .before .before .before .before .before .before .before .before .args .s .now) (c .before .before .before .before .before .before .before .before .before .before .before .before .before .before .before .before .before .before .before .before .before .before .before .before .before .args .lists .now) (rows (c .before .before .before .before .before .before .before .before .before .before .before .before .before .before .before .before .before .before .before .before .before .before .before .before .before .args .spilled .now) 0) (c .before .before .before .before .before .before .before .before .before .before .before .before .before .before .before .before .before .before .before .before .before .before .before .before .before .args .block .start) (c .before .before .before .before .before .before .before .before .before .before .before .before .before .before .before .before .before .before .before .before .before .before .before .before .before .args .block .front) (c .before .before .before .before .before .before .before .before .before .before .before .before .before .before .before .before .before .before .before .before .before .before .before .before .before .args .block .end) (c .before .before .before .before .before .before .before .before .before .before .before .before .before .before .before .before .before .before .before .before .before .before .before .before .before .args .block .behind) (c .before .before .before .before .before .before .before .before .before .before .before .before .before .before .before .before .before .before .before .before .before .before .before .before .before .pre .2) (c .before .before .before .before .before .before .before .before .before .before .before .before .before .before .before .before .before .before .before .before .before .before .before .before .before .args .p .pointer) (tables (c .before .before .before .before .before .before .before .before .before .before .before .before .before .before .before .before .before .before .before .before .before .before .before .before .before .args .asked .now) (c .before .before .before .before .before .before .before .before .before .before .before .before .before .before .before .before .before .before .before .before .before .before .before .before .before .args .steps .now) (c .before .before .before .before .before .before .before .before .before .before .before .before .before .before .before .before .before .before .before .before .before .before .before .before .before .args .sizes .now) (c .before .before .before .before .before .before .before .before .before .before .before .before .before .before .before .before .before .before .before .before .before .before .before .before .before .args .p)) (c .before .before .before .before .before .before .before .before .before .before .before .before .before .before .before .before .before .before .before .before .before .before .before .before .before .args .numbers .now) (c .before .before .before .before .before .before .before .before .before .before .before .before .before .before .before .before .loop .i) (c .before .before .before .before .before .before .before .before .before .before .before .before .before .before .before .before .loop .number) (c .before .before .before .before .before .before .before .before .before .before .before .before .before .before .if1 .taken) (tables (c .before .before .before .before .before .before .before .before .before .before .before .before .before .before .before .before .loop .asked) (c .before .before .before .before .before .before .before .before .before .before .before .before .before .before .before .before .loop .steps) (c .before .before .before .before .before .before .before .before .before .before .before .before .before .before .before .before .loop .sizes) (c .before .before .before .before .before .before .before .before .before .before .before .before .before .before .before .before .loop .done)) (c .before .before .before .before .before .before .before .before .before .before .before .before .before .before .before .before .loop .numbers) (c .before .before .before .before .before .before .before .before .before .before .before .before .before .before .before .before .loop .inv) (c .before .before .before .before .before .before .before .before .before .before .before .before .before .last-instruction .result) (c .before .before .before .before .before .before .before .before .before .before .before .before .before .last-instruction .ensures) refl (c .before .before .before .before .before .before .before .before .before .before .before .before .before .before .before .before .before .before .before .before .before .before .before .before .before .pre .3 .able) (c .before .before .before .before .before .before .before .before .before .before .before .before .before .before .before .before .loop .done .given) refl _ _ (c .before .before .before .before .before .before .before .before .plan-instruction .ensures)
 
--- src/blocks.rt:46:1
 same-length : tie.Need-same-length Inv-loop μ-loop
 same-length c = c .before .before .loop .inv .noted .kept .askedLong
 
--- src/blocks.rt:46:1
 same-length-2 : tie.Need-same-length-2 Inv-loop μ-loop
 same-length-2 c = c .before .before .loop .inv .noted .kept .stepsLong
 
--- src/blocks.rt:46:1
 same-length-3 : tie.Need-same-length-3 Inv-loop μ-loop
 same-length-3 c = c .before .before .loop .inv .noted .kept .sizesLong
 
--- src/blocks.rt:46:1
 same-length-4 : tie.Need-same-length-4 Inv-loop μ-loop
 same-length-4 c = c .before .before .loop .inv .noted .long
 
--- src/blocks.rt:46:1
 returns : tie.Need-returns Inv-loop μ-loop
 returns c = back-end (c .before .before .before .before .before .before .before .before .before .before .before .args .s .now) (c .before .before .before .before .before .before .before .before .before .before .before .args .lists .now) (rows (c .before .before .before .before .before .before .before .before .before .before .before .args .spilled .now) 0) (c .before .before .before .before .before .before .before .before .before .before .before .args .block .front) (c .before .before .before .before .before .before .before .before .before .before .before .args .block .end) (c .before .before .before .before .before .before .before .before .before .before .before .args .block .behind) (c .before .before .before .before .before .before .before .before .before .before .before .args .p .pointer) _ (c .before .before .before .before .before .before .before .before .before .before .before .args .numbers .now) (c .before .before .loop .i) (c .before .before .loop .number) _ _ (c .before .before .loop .inv) (c .if1 .left)
 

@@ -1,3 +1,4 @@
+-- `planner::functions::number_instructions` meets its contract.
 use borrow.Author.Needs.{needs}
 use Rattle.planner.specs.FirstNumbers.{NumberedTo, numbered-start, numbered-more, next-first, next-low}
 use Rattle.listing.specs.Crossings.{crossingsBelow}
@@ -16,67 +17,51 @@ Inv-loop s places blocks firsts₀ first₀ b₀ firsts first b = (b ≤ blocks)
 abbrev μ-loop : tie.MeasureT-loop
 μ-loop s places blocks firsts₀ first₀ b₀ firsts first b = blocks - b
 
--- src/functions.rt:30:5
 loop-holds : tie.Need-loop-holds Inv-loop μ-loop
 loop-holds c = (omega arith, refl, omega arith, numbered-start (c .before .before .before .args .s .now) (c .before .before .before .args .firsts .now))
 
--- src/functions.rt:31:9
 mul-firsts : tie.Need-mul-firsts Inv-loop μ-loop
 mul-firsts c = search needs
 
--- src/functions.rt:31:9
 slice-write-firsts : tie.Need-slice-write-firsts Inv-loop μ-loop
 slice-write-firsts c = omega (arith, c .loop-test .taken, c .before .before .before .before .before .pre .2, c .before .loop .inv .3 .long)
 
--- src/functions.rt:32:21
 mul-start : tie.Need-mul-start Inv-loop μ-loop
 mul-start c = search needs
 
--- src/functions.rt:32:21
 shared-slice-read-start : tie.Need-shared-slice-read-start Inv-loop μ-loop
 shared-slice-read-start c = omega (arith, c .before .loop-test .taken, c .before .before .before .before .before .before .pre .1, places-long (c .before .before .before .before .before .before .args .s .now) (c .before .before .before .before .before .before .args .places .now) (c .before .before .before .before .before .before .pre .0))
 
--- src/functions.rt:32:21
 add-start : tie.Need-add-start Inv-loop μ-loop
 add-start c = omega (arith, end-le (c .before .before .before .before .before .before .args .s .now) (c .before .before .before .before .before .before .args .places .now) (c .before .before .before .before .before .before .pre .0) (c .before .before .loop .b) (omega (arith, c .before .loop-test .taken, c .before .before .before .before .before .before .pre .1)), start-less (c .before .before .before .before .before .before .args .s .now) (c .before .before .before .before .before .before .args .places .now) (c .before .before .before .before .before .before .pre .0) (c .before .before .loop .b) (omega (arith, c .before .loop-test .taken, c .before .before .before .before .before .before .pre .1)))
 
--- src/functions.rt:33:26
 add-end : tie.Need-add-end Inv-loop μ-loop
 add-end c = search needs
 
--- src/functions.rt:33:19
 mul-end : tie.Need-mul-end Inv-loop μ-loop
 mul-end c = search needs
 
--- src/functions.rt:33:19
 shared-slice-read-end : tie.Need-shared-slice-read-end Inv-loop μ-loop
 shared-slice-read-end c = omega (arith, c .before .before .loop-test .taken, c .before .before .before .before .before .before .before .pre .1, places-long (c .before .before .before .before .before .before .before .args .s .now) (c .before .before .before .before .before .before .before .args .places .now) (c .before .before .before .before .before .before .before .pre .0))
 
--- src/functions.rt:34:13
 count-instructions-requires : tie.Need-count-instructions-requires Inv-loop μ-loop
 count-instructions-requires c κs = (omega (arith, end-le (c .before .before .before .before .before .before .before .args .s .now) (c .before .before .before .before .before .before .before .args .places .now) (c .before .before .before .before .before .before .before .pre .0) (c .before .before .before .loop .b) (omega (arith, c .before .before .loop-test .taken, c .before .before .before .before .before .before .before .pre .1)), start-less (c .before .before .before .before .before .before .before .args .s .now) (c .before .before .before .before .before .before .before .args .places .now) (c .before .before .before .before .before .before .before .pre .0) (c .before .before .before .loop .b) (omega (arith, c .before .before .loop-test .taken, c .before .before .before .before .before .before .before .pre .1))), omega (arith, end-le (c .before .before .before .before .before .before .before .args .s .now) (c .before .before .before .before .before .before .before .args .places .now) (c .before .before .before .before .before .before .before .pre .0) (c .before .before .before .loop .b) (omega (arith, c .before .before .loop-test .taken, c .before .before .before .before .before .before .before .pre .1)), start-less (c .before .before .before .before .before .before .before .args .s .now) (c .before .before .before .before .before .before .before .args .places .now) (c .before .before .before .before .before .before .before .pre .0) (c .before .before .before .loop .b) (omega (arith, c .before .before .loop-test .taken, c .before .before .before .before .before .before .before .pre .1))))
 
--- src/functions.rt:35:9
 add-first : tie.Need-add-first Inv-loop μ-loop
 add-first c = omega (arith, next-low (c .before .before .before .before .before .before .before .before .args .s .now) (c .before .before .before .before .before .before .before .before .args .places .now) (c .before .before .before .before .before .before .before .before .pre .0) (c .before .before .before .before .loop .b) (omega (arith, c .before .before .before .loop-test .taken, c .before .before .before .before .before .before .before .before .pre .1)) (c .before .before .before .before .loop .first) (c .count-instructions .result) (c .before .before .before .before .loop .inv .1) (c .count-instructions .ensures) (c .before .before .before .before .loop .inv .2), end-le (c .before .before .before .before .before .before .before .before .args .s .now) (c .before .before .before .before .before .before .before .before .args .places .now) (c .before .before .before .before .before .before .before .before .pre .0) (c .before .before .before .before .loop .b) (omega (arith, c .before .before .before .loop-test .taken, c .before .before .before .before .before .before .before .before .pre .1)), start-less (c .before .before .before .before .before .before .before .before .args .s .now) (c .before .before .before .before .before .before .before .before .args .places .now) (c .before .before .before .before .before .before .before .before .pre .0) (c .before .before .before .before .loop .b) (omega (arith, c .before .before .before .loop-test .taken, c .before .before .before .before .before .before .before .before .pre .1)))
 
--- src/functions.rt:36:9
 add-b : tie.Need-add-b Inv-loop μ-loop
 add-b c = search needs
 
--- src/functions.rt:30:5
 loop-less : tie.Need-loop-less Inv-loop μ-loop
 loop-less c = search needs
 
--- src/functions.rt:30:5
 loop-again : tie.Need-loop-again Inv-loop μ-loop
 loop-again c = (omega (arith, c .before .before .before .loop-test .taken), next-first (c .before .before .before .before .before .before .before .before .args .s .now) (c .before .before .before .before .before .before .before .before .args .places .now) (c .before .before .before .before .before .before .before .before .pre .0) (c .before .before .before .before .loop .b) (omega (arith, c .before .before .before .loop-test .taken, c .before .before .before .before .before .before .before .before .pre .1)) (c .before .before .before .before .loop .first) (c .count-instructions .result) (c .before .before .before .before .loop .inv .1) (c .count-instructions .ensures), next-low (c .before .before .before .before .before .before .before .before .args .s .now) (c .before .before .before .before .before .before .before .before .args .places .now) (c .before .before .before .before .before .before .before .before .pre .0) (c .before .before .before .before .loop .b) (omega (arith, c .before .before .before .loop-test .taken, c .before .before .before .before .before .before .before .before .pre .1)) (c .before .before .before .before .loop .first) (c .count-instructions .result) (c .before .before .before .before .loop .inv .1) (c .count-instructions .ensures) (c .before .before .before .before .loop .inv .2), numbered-more (c .before .before .before .before .before .before .before .before .args .s .now) (c .before .before .before .before .loop .b) (c .before .before .before .before .before .before .before .before .args .firsts .now) (c .before .before .before .before .loop .firsts) (c .before .before .before .before .loop .first) (omega (arith, c .before .before .before .loop-test .taken, c .before .before .before .before .before .before .before .before .pre .2, c .before .before .before .before .loop .inv .3 .long)) (c .before .before .before .before .loop .inv .1) (c .before .before .before .before .loop .inv .3))
 
--- src/functions.rt:24:1
 same-length : tie.Need-same-length Inv-loop μ-loop
 same-length c = c .before .loop .inv .3 .long
 
--- src/functions.rt:24:1
 returns : tie.Need-returns Inv-loop μ-loop
 returns c =
     let all : c .before .loop .b ≡ c .before .before .before .before .before .args .blocks = omega (arith, c .loop-test .left, c .before .loop .inv .0) in

@@ -2,8 +2,11 @@
 use Prim.Native.Nat.{ℕ, _<_}
 use mathlib.Core.Path.{sym, ap, subst, _∙_}
 use native.Mathlib.Omega.{arith}
+use lib.ListN.{length}
+use Rattle.rules.specs.Lists.{padded}
 use Rattle.rules.specs.Services.{refusedLine}
-use Rattle.services.proofs.Lines.{refusal-small, line-one, line-two}
+use Rattle.services.specs.Program.{lineBytes}
+use Rattle.services.proofs.Lines.{refusal-small, one-digit, two-digits}
 use borrow.Author.Needs.{needs}
 use Rattle.services.proofs.program.refused_line.Statement.{statement}
 use Rattle.services.proofs.program.refused_line.Tie as tie
@@ -28,7 +31,10 @@ array-write-bytes-2 c = search needs
 
 returns : tie.Need-returns
 returns c =
-    (line-one (c .before .before .before .refusal-number .result) (c .if1 .taken) ∙ ap refusedLine (c .before .before .before .refusal-number .ensures), omega arith)
+    let line = one-digit (c .before .before .before .refusal-number .result) (c .if1 .taken) in (
+      line .0 ∙ ap (λ (n : ℕ). padded lineBytes (refusedLine n)) (c .before .before .before .refusal-number .ensures),
+      line .1 ∙ ap (λ (n : ℕ). length (refusedLine n)) (c .before .before .before .refusal-number .ensures),
+    )
 
 cast-bytes-2 : tie.Need-cast-bytes-2
 cast-bytes-2 c = search needs
@@ -54,7 +60,10 @@ array-write-bytes-5 c = search needs
 returns-2 : tie.Need-returns-2
 returns-2 c =
     let small = subst (λ (n : ℕ). n < 12) (sym (c .before .before .before .refusal-number .ensures)) (refusal-small (c .before .before .before .before .args .verdict)) in
-    (line-two (c .before .before .before .refusal-number .result) (c .if1 .left) small ∙ ap refusedLine (c .before .before .before .refusal-number .ensures), omega arith)
+    let line = two-digits (c .before .before .before .refusal-number .result) (c .if1 .left) small in (
+      line .0 ∙ ap (λ (n : ℕ). padded lineBytes (refusedLine n)) (c .before .before .before .refusal-number .ensures),
+      line .1 ∙ ap (λ (n : ℕ). length (refusedLine n)) (c .before .before .before .refusal-number .ensures),
+    )
 
 pub refused-line-spec : {M : Type 1} → statement M
 refused-line-spec =

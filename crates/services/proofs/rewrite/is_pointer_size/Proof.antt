@@ -1,5 +1,5 @@
 -- `services::rewrite::is_pointer_size` meets its contract.
-use mathlib.Core.Path.{refl, sym, ap}
+use mathlib.Core.Path.{sym, ap}
 use mathlib.Core.Bool.{_||_}
 use lib.Dec.{eqb}
 use borrow.Author.Tests.{eq-eqb, ne-eqb}

@@ -1,5 +1,4 @@
 -- `services::rewrite::rewrite` meets its contract.
-use Prim.Native.Nat.{ℕ}
 use mathlib.Core.Path.{sym, ap, _∙_}
 use borrow.Author.Needs.{needs}
 use borrow.Author.Tests.{not-true, not-false}

@@ -1,22 +1,19 @@
+-- `spiller::edges::next_edge_place` meets its contract.
 use native.Mathlib.Omega.{arith}
 use Rattle.spiller.specs.Spans.{found-none, found-some, found-behind}
 use borrow.Author.Needs.{needs}
 use Rattle.spiller.proofs.edges.next_edge_place.Statement.{statement}
 use Rattle.spiller.proofs.edges.next_edge_place.Tie as tie
 
--- src/edges.rt:24:9
 next-edge-requires : tie.Need-next-edge-requires
 next-edge-requires c κs = search needs
 
--- src/edges.rt:26:9
 returns : tie.Need-returns
 returns c = found-none (c .before .before .before .before .args .s .now) (c .before .before .before .before .args .from) (c .before .before .before .before .args .end) (c .before .before .before .before .pre .0) (c .before .before .before .before .pre .1) (c .before .before .next-edge .result) (c .before .before .next-edge .ensures) (c .if1 .taken)
 
--- src/edges.rt:28:5
 sub-result : tie.Need-sub-result
 sub-result c = omega (arith, found-behind (c .before .before .before .before .before .args .s .now) (c .before .before .before .before .before .args .from) (c .before .before .before .before .before .args .end) (c .before .before .before .next-edge .result) (c .before .before .before .next-edge .ensures) (c .before .if1 .left))
 
--- src/edges.rt:20:1
 returns-2 : tie.Need-returns-2
 returns-2 c = found-some (c .before .before .before .before .before .args .s .now) (c .before .before .before .before .before .args .from) (c .before .before .before .before .before .args .end) (c .before .before .before .before .before .pre .0) (c .before .before .before .before .before .pre .1) (c .before .before .before .next-edge .result) (c .before .before .before .next-edge .ensures) (c .before .if1 .left)
 

@@ -1,3 +1,4 @@
+-- `spiller::edges::plan_edges` meets its contract.
 use borrow.Author.Needs.{needs}
 use Rattle.spiller.specs.Edges.{EdgesDone, edges-begun, edge-ready, edge-done}
 use Rattle.planning.specs.Standing.{tables}
@@ -13,53 +14,41 @@ Inv-loop s places spilled safepoint start end asked₀ steps₀ sizes₀ numbers
 abbrev μ-loop : tie.MeasureT-loop
 μ-loop s places spilled safepoint start end asked₀ steps₀ sizes₀ numbers₀ done₀ i₀ asked steps sizes numbers done i = end - i
 
--- src/edges.rt:72:9
 next-edge-place-requires : tie.Need-next-edge-place-requires Inv-loop μ-loop
 next-edge-place-requires c κs = search needs
 
--- src/edges.rt:73:5
 loop-holds : tie.Need-loop-holds Inv-loop μ-loop
 loop-holds c = edges-begun (c .before .before .before .before .before .before .before .before .args .s .now) (c .before .before .before .before .before .before .before .before .args .p .pointer) (c .before .before .before .before .before .before .before .before .args .safepoint) (c .before .before .before .before .before .before .before .before .args .start) (tables (c .before .before .before .before .before .before .before .before .args .asked .now) (c .before .before .before .before .before .before .before .before .args .steps .now) (c .before .before .before .before .before .before .before .before .args .sizes .now) (c .before .before .before .before .before .before .before .before .args .p)) (c .before .before .before .before .before .before .before .before .args .numbers .now) (c .before .before .before .before .before .before .before .before .args .end) (c .before .before .before .before .before .before .before .before .pre .2 .up) (c .before .before .before .before .before .before .before .before .pre .2 .inFile) (c .next-edge-place .result) (c .next-edge-place .ensures)
 
--- src/edges.rt:74:39
 add-next-edge-place : tie.Need-add-next-edge-place Inv-loop μ-loop
 add-next-edge-place c = search needs
 
--- src/edges.rt:74:13
 next-edge-place-requires-2 : tie.Need-next-edge-place-requires-2 Inv-loop μ-loop
 next-edge-place-requires-2 c κs = (omega (arith, c .loop-test .taken), c .before .before .before .before .before .before .before .before .before .before .pre .2 .inFile)
 
--- src/edges.rt:75:9
 plan-edge-requires : tie.Need-plan-edge-requires Inv-loop μ-loop
 plan-edge-requires c κs =
     let ready = edge-ready (c .before .before .before .before .before .before .before .before .before .before .before .before .before .before .before .args .s .now) (c .before .before .before .before .before .before .before .before .before .before .before .before .before .before .before .args .p .pointer) (c .before .before .before .before .before .before .before .before .before .before .before .before .before .before .before .args .safepoint) (c .before .before .before .before .before .before .before .before .before .before .before .before .before .before .before .args .start) (tables (c .before .before .before .before .before .before .before .before .before .before .before .before .before .before .before .args .asked .now) (c .before .before .before .before .before .before .before .before .before .before .before .before .before .before .before .args .steps .now) (c .before .before .before .before .before .before .before .before .before .before .before .before .before .before .before .args .sizes .now) (c .before .before .before .before .before .before .before .before .before .before .before .before .before .before .before .args .p)) (c .before .before .before .before .before .before .before .before .before .before .before .before .before .before .before .args .numbers .now) (c .before .before .before .before .before .before .before .before .before .before .before .before .before .before .before .args .end) (c .before .before .before .before .before .before .loop .i) (c .before .before .before .before .before .before .before .before .before .before .before .before .before .before .before .pre .2 .inFile) (c .before .before .before .before .before .loop-test .taken) (tables (c .before .before .before .before .before .before .loop .asked) (c .before .before .before .before .before .before .loop .steps) (c .before .before .before .before .before .before .loop .sizes) (c .before .before .before .before .before .before .loop .done)) (c .before .before .before .before .before .before .loop .numbers) (c .before .before .before .before .before .before .loop .inv) (c .before .before .before .before .next-edge-place2 .result) (c .before .before .before .before .next-edge-place2 .ensures) (c .before .before .before .before .before .before .before .before .before .before .before .before .before .before .before .pre .3) (c .before .before .before .before .before .before .before .before .before .before .before .before .before .before .before .pre .2 .inNumbers) (c .before .before .before .before .before .before .before .before .before .before .before .before .before .before .before .pre .4) (c .before .before .before .before .before .before .before .before .before .before .before .before .before .before .before .pre .5) in
     (c .before .before .before .before .before .before .before .before .before .before .before .before .before .before .before .pre .0, c .before .before .before .before .before .before .before .before .before .before .before .before .before .before .before .pre .1, ready .0, ready .1, ready .2, ready .3)
 
--- src/edges.rt:73:5
 loop-less : tie.Need-loop-less Inv-loop μ-loop
 loop-less c = edge-done (c .before .before .before .before .before .before .before .before .before .before .before .before .before .before .before .before .before .before .before .before .before .before .before .before .args .s .now) (c .before .before .before .before .before .before .before .before .before .before .before .before .before .before .before .before .before .before .before .before .before .before .before .before .args .p .pointer) (c .before .before .before .before .before .before .before .before .before .before .before .before .before .before .before .before .before .before .before .before .before .before .before .before .args .safepoint) (c .before .before .before .before .before .before .before .before .before .before .before .before .before .before .before .before .before .before .before .before .before .before .before .before .args .start) (tables (c .before .before .before .before .before .before .before .before .before .before .before .before .before .before .before .before .before .before .before .before .before .before .before .before .args .asked .now) (c .before .before .before .before .before .before .before .before .before .before .before .before .before .before .before .before .before .before .before .before .before .before .before .before .args .steps .now) (c .before .before .before .before .before .before .before .before .before .before .before .before .before .before .before .before .before .before .before .before .before .before .before .before .args .sizes .now) (c .before .before .before .before .before .before .before .before .before .before .before .before .before .before .before .before .before .before .before .before .before .before .before .before .args .p)) (c .before .before .before .before .before .before .before .before .before .before .before .before .before .before .before .before .before .before .before .before .before .before .before .before .args .numbers .now) (c .before .before .before .before .before .before .before .before .before .before .before .before .before .before .before .before .before .before .before .before .before .before .before .before .args .end) (c .before .before .before .before .before .before .before .before .before .before .before .before .before .before .before .loop .i) (c .before .before .before .before .before .before .before .before .before .before .before .before .before .before .before .before .before .before .before .before .before .before .before .before .pre .2 .inFile) (c .before .before .before .before .before .before .before .before .before .before .before .before .before .before .loop-test .taken) (tables (c .before .before .before .before .before .before .before .before .before .before .before .before .before .before .before .loop .asked) (c .before .before .before .before .before .before .before .before .before .before .before .before .before .before .before .loop .steps) (c .before .before .before .before .before .before .before .before .before .before .before .before .before .before .before .loop .sizes) (c .before .before .before .before .before .before .before .before .before .before .before .before .before .before .before .loop .done)) (c .before .before .before .before .before .before .before .before .before .before .before .before .before .before .before .loop .numbers) (c .before .before .before .before .before .before .before .before .before .before .before .before .before .before .before .loop .inv) (c .before .before .before .before .before .before .before .before .before .before .before .before .before .next-edge-place2 .result) (c .before .before .before .before .before .before .before .before .before .before .before .before .before .next-edge-place2 .ensures) _ _ refl (c .before .before .before .before .before .before .before .before .plan-edge .ensures) .1
 
--- src/edges.rt:73:5
 loop-again : tie.Need-loop-again Inv-loop μ-loop
 loop-again c = edge-done (c .before .before .before .before .before .before .before .before .before .before .before .before .before .before .before .before .before .before .before .before .before .before .before .before .args .s .now) (c .before .before .before .before .before .before .before .before .before .before .before .before .before .before .before .before .before .before .before .before .before .before .before .before .args .p .pointer) (c .before .before .before .before .before .before .before .before .before .before .before .before .before .before .before .before .before .before .before .before .before .before .before .before .args .safepoint) (c .before .before .before .before .before .before .before .before .before .before .before .before .before .before .before .before .before .before .before .before .before .before .before .before .args .start) (tables (c .before .before .before .before .before .before .before .before .before .before .before .before .before .before .before .before .before .before .before .before .before .before .before .before .args .asked .now) (c .before .before .before .before .before .before .before .before .before .before .before .before .before .before .before .before .before .before .before .before .before .before .before .before .args .steps .now) (c .before .before .before .before .before .before .before .before .before .before .before .before .before .before .before .before .before .before .before .before .before .before .before .before .args .sizes .now) (c .before .before .before .before .before .before .before .before .before .before .before .before .before .before .before .before .before .before .before .before .before .before .before .before .args .p)) (c .before .before .before .before .before .before .before .before .before .before .before .before .before .before .before .before .before .before .before .before .before .before .before .before .args .numbers .now) (c .before .before .before .before .before .before .before .before .before .before .before .before .before .before .before .before .before .before .before .before .before .before .before .before .args .end) (c .before .before .before .before .before .before .before .before .before .before .before .before .before .before .before .loop .i) (c .before .before .before .before .before .before .before .before .before .before .before .before .before .before .before .before .before .before .before .before .before .before .before .before .pre .2 .inFile) (c .before .before .before .before .before .before .before .before .before .before .before .before .before .before .loop-test .taken) (tables (c .before .before .before .before .before .before .before .before .before .before .before .before .before .before .before .loop .asked) (c .before .before .before .before .before .before .before .before .before .before .before .before .before .before .before .loop .steps) (c .before .before .before .before .before .before .before .before .before .before .before .before .before .before .before .loop .sizes) (c .before .before .before .before .before .before .before .before .before .before .before .before .before .before .before .loop .done)) (c .before .before .before .before .before .before .before .before .before .before .before .before .before .before .before .loop .numbers) (c .before .before .before .before .before .before .before .before .before .before .before .before .before .before .before .loop .inv) (c .before .before .before .before .before .before .before .before .before .before .before .before .before .next-edge-place2 .result) (c .before .before .before .before .before .before .before .before .before .before .before .before .before .next-edge-place2 .ensures) _ _ refl (c .before .before .before .before .before .before .before .before .plan-edge .ensures) .0
 
--- src/edges.rt:55:1
 same-length : tie.Need-same-length Inv-loop μ-loop
 same-length c = c .before .loop .inv .3 .kept .askedLong
 
--- src/edges.rt:55:1
 same-length-2 : tie.Need-same-length-2 Inv-loop μ-loop
 same-length-2 c = c .before .loop .inv .3 .kept .stepsLong
 
--- src/edges.rt:55:1
 same-length-3 : tie.Need-same-length-3 Inv-loop μ-loop
 same-length-3 c = c .before .loop .inv .3 .kept .sizesLong
 
--- src/edges.rt:55:1
 same-length-4 : tie.Need-same-length-4 Inv-loop μ-loop
 same-length-4 c = c .before .loop .inv .3 .long
 
--- src/edges.rt:55:1
 returns : tie.Need-returns Inv-loop μ-loop
 returns c =
     let all : c .before .loop .i ≡ c .before .before .before .before .before .before .before .before .before .before .args .end = omega (arith, c .loop-test .left, c .before .loop .inv .1) in

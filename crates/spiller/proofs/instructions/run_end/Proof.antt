@@ -1,3 +1,4 @@
+-- `spiller::instructions::run_end` meets its contract.
 use borrow.Author.Needs.{needs}
 use Rattle.spiller.specs.Parted.{runEnd, run-none, run-ends, run-goes}
 use Rattle.rules.specs.Records.{kind}
@@ -13,35 +14,27 @@ Inv-loop s kind from end i₀ i = (from ≤ i) × (i ≤ end) × (runEnd s kind 
 abbrev μ-loop : tie.MeasureT-loop
 μ-loop s kind from end i₀ i = end - i
 
--- src/instructions.rt:36:5
 loop-holds : tie.Need-loop-holds Inv-loop μ-loop
 loop-holds c = (search needs, search needs, refl)
 
--- src/instructions.rt:37:20
 record-at-requires : tie.Need-record-at-requires Inv-loop μ-loop
 record-at-requires c κs = search needs
 
--- src/instructions.rt:37:12
 kind-of-requires : tie.Need-kind-of-requires Inv-loop μ-loop
 kind-of-requires c κs = search needs
 
--- src/instructions.rt:38:13
 returns : tie.Need-returns Inv-loop μ-loop
 returns c = (run-ends (c .before .before .before .before .before .before .args .s .now) (c .before .before .before .before .before .before .args .kind) (c .before .before .before .before .loop .i) (c .before .before .before .before .before .before .args .end) (c .before .before .before .loop-test .taken) (c .before .before .before .before .before .before .pre .1) (λ h. c .if1 .taken (c .before .kind-of .ensures .0 ∙ ap kind (c .before .before .record-at .ensures) ∙ h)) ∙ c .before .before .before .before .loop .inv .2, c .before .before .before .before .loop .inv .1)
 
--- src/instructions.rt:40:9
 add-i : tie.Need-add-i Inv-loop μ-loop
 add-i c = search needs
 
--- src/instructions.rt:36:5
 loop-less : tie.Need-loop-less Inv-loop μ-loop
 loop-less c = search needs
 
--- src/instructions.rt:36:5
 loop-again : tie.Need-loop-again Inv-loop μ-loop
 loop-again c = (search needs, search needs, run-goes (c .before .before .before .before .before .before .args .s .now) (c .before .before .before .before .before .before .args .kind) (c .before .before .before .before .loop .i) (c .before .before .before .before .before .before .args .end) (c .before .before .before .loop-test .taken) (c .before .before .before .before .before .before .pre .1) (sym (c .before .kind-of .ensures .0 ∙ ap kind (c .before .before .record-at .ensures)) ∙ c .if1 .left) ∙ c .before .before .before .before .loop .inv .2)
 
--- src/instructions.rt:31:1
 returns-2 : tie.Need-returns-2 Inv-loop μ-loop
 returns-2 c = (run-none (c .before .before .before .args .s .now) (c .before .before .before .args .kind) (c .before .loop .i) (c .before .before .before .args .end) (omega arith) ∙ c .before .loop .inv .2, c .before .loop .inv .1)
 

@@ -1,3 +1,4 @@
+-- `spiller::landings::is_word` meets its contract.
 use Rattle.spiller.specs.Landed.{word-kind, word-other}
 use Rattle.rules.specs.Records.{encode}
 use mathlib.Core.Path.{ap, _∙_}
@@ -5,19 +6,15 @@ use borrow.Author.Needs.{needs}
 use Rattle.spiller.proofs.landings.is_word.Statement.{statement}
 use Rattle.spiller.proofs.landings.is_word.Tie as tie
 
--- src/landings.rt:35:22
 record-at-requires : tie.Need-record-at-requires
 record-at-requires c κs = search needs
 
--- src/landings.rt:35:9
 words-of-requires : tie.Need-words-of-requires
 words-of-requires c κs = search needs
 
--- src/landings.rt:31:1
 returns : tie.Need-returns
 returns c = word-kind (c .before .before .before .words-of .result) _ (c .before .before .before .words-of .ensures ∙ ap encode (c .before .before .before .before .record-at .ensures)) (c .before .if1 .taken)
 
--- src/landings.rt:31:1
 returns-2 : tie.Need-returns-2
 returns-2 c = word-other (c .before .before .words-of .result) _ (c .before .before .words-of .ensures ∙ ap encode (c .before .before .before .record-at .ensures)) (c .if1 .left)
 

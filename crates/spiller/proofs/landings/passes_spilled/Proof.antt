@@ -1,3 +1,4 @@
+-- `spiller::landings::passes_spilled` meets its contract.
 use native.Mathlib.Omega.{arith}
 use borrow.Author.Needs.{needs}
 use Rattle.spiller.specs.Passing.{passing, passing-here, passing-later, passing-none}
@@ -15,31 +16,24 @@ Inv-loop s spilled start end i₀ i = (start ≤ i) × (i ≤ end) × (passing (
 abbrev μ-loop : tie.MeasureT-loop
 μ-loop s spilled start end i₀ i = end - i
 
--- src/landings.rt:114:5
 loop-holds : tie.Need-loop-holds Inv-loop μ-loop
 loop-holds c = (search needs, search needs, refl)
 
--- src/landings.rt:115:12
 passes-at-requires : tie.Need-passes-at-requires Inv-loop μ-loop
 passes-at-requires c κs = search needs
 
--- src/landings.rt:116:13
 returns : tie.Need-returns Inv-loop μ-loop
 returns c = sym (passing-here (isSpilled (functionIn (c .before .before .before .before .before .before .args .s .now))) (c .before .before .before .before .before .before .args .s .now) (c .before .before .before .loop .i) (c .before .before .before .before .before .before .args .end) (c .before .before .loop-test .taken) (c .before .before .before .before .before .before .pre .2) (sym (c .before .passes-at .ensures) ∙ c .if1 .taken)) ∙ c .before .before .before .loop .inv .2
 
--- src/landings.rt:118:9
 add-i : tie.Need-add-i Inv-loop μ-loop
 add-i c = search needs
 
--- src/landings.rt:114:5
 loop-less : tie.Need-loop-less Inv-loop μ-loop
 loop-less c = search needs
 
--- src/landings.rt:114:5
 loop-again : tie.Need-loop-again Inv-loop μ-loop
 loop-again c = (search needs, search needs, passing-later (isSpilled (functionIn (c .before .before .before .before .before .before .args .s .now))) (c .before .before .before .before .before .before .args .s .now) (c .before .before .before .loop .i) (c .before .before .before .before .before .before .args .end) (c .before .before .loop-test .taken) (c .before .before .before .before .before .before .pre .2) (sym (c .before .passes-at .ensures) ∙ c .if1 .left) ∙ c .before .before .before .loop .inv .2)
 
--- src/landings.rt:109:1
 returns-2 : tie.Need-returns-2 Inv-loop μ-loop
 returns-2 c = sym (passing-none (isSpilled (functionIn (c .before .before .before .before .args .s .now))) (c .before .before .before .before .args .s .now) (c .before .loop .i) (c .before .before .before .before .args .end) (omega arith)) ∙ c .before .loop .inv .2
 
