@@ -9,6 +9,7 @@ use lib.ListN.{length}
 use lib.Seq.{sets}
 use Rattle.rules.specs.Lists.{keep, upFrom, NumberSet}
 use Rattle.graph.specs.Sections.{placeIf}
+use Rattle.rows.specs.Passed.{keep-passed}
 use Rattle.rows.specs.Rows.{rowValues}
 use Rattle.listing.specs.Ascending.{ascending}
 
@@ -41,6 +42,11 @@ module _ (set : NumberSet) where
   numbersFrom-done v e =
       let none : rowValues - v ≡ 0 = omega arith in
       ap (λ (n : ℕ). keep set (upFrom v n)) none
+
+  -- none is left out where values are passed over
+  pub numbersFrom-passed : (v r : ℕ) → v ≤ r → r ≤ rowValues → ((u : ℕ) → v ≤ u → u < r → set u ≡ false) → numbersFrom v ≡ numbersFrom r
+  unfolding numbersFrom
+  numbersFrom-passed v r l m none = keep-passed set v r rowValues l m none
 
   module _ (v : ℕ) (l : v < rowValues) (b : Bool) (e : b ≡ set v) where
     next : numbersFrom v ≡ placeIf b v (numbersFrom (v + 1))

@@ -8,6 +8,7 @@ ghost use Rattle.listing.specs.Ascending.{ascending};
 ghost use Rattle.graph.specs.Sections.{placeIf};
 ghost use Rattle.rows.specs.Rows.{rows, rowValues, HasRow};
 use rows::contains;
+use rows::next_in;
 use rules::ROW_WORDS;
 
 // How many values a row has bits for.
@@ -41,7 +42,7 @@ pub fn list_numbers(t: &[u64], row: usize, out: &mut [u32]) -> usize
     let mut v: usize = 0;
     while v < ROW_VALUES {
         found = note(out, found, contains(t, row, v), v);
-        v += 1;
+        v = next_in(t, row, v + 1, ROW_VALUES);
     }
     found
 }

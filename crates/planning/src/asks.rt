@@ -5,6 +5,7 @@ ghost use Rattle.rows.specs.Rows.{rows, rowValues};
 ghost use Rattle.planning.specs.Standing.{Slotted, spilledFrom, Rows};
 use crate::steps::ask;
 use rows::contains;
+use rows::next_in;
 
 // A slot for a value, if it is spilled and in the row.
 fn ask_spilled(
@@ -45,7 +46,7 @@ pub fn ask_all(
     let mut v: usize = 0;
     while v < values {
         found = ask_spilled(spilled, set, row, v, asked, steps, found);
-        v += 1;
+        v = next_in(set, row, v + 1, values);
     }
     found
 }

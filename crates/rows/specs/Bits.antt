@@ -3,8 +3,9 @@ use Prim.Native.Nat.{ℕ, zero, suc, _+_, _-_, _/_, _%_, _^_, _<_, min, max}
 use native.Mathlib.Omega.{arith}
 use native.Mathlib.Nat.{pow-suc, mul-comm, div-div-eq-div-mul}
 use mathlib.Core.Path.{_≡_, refl, sym, ap, _∙_}
-use mathlib.Core.Bool.{Bool, false, not, _&&_, _||_}
+use mathlib.Core.Bool.{Bool, true, false, not, _&&_, _||_}
 use lib.Bits.{bitAnd, bitOr, and-step, or-step, and-mask}
+use lib.Count.{trailingZeros, under}
 use lib.Dec.{eqb, eqb·zero-suc, eqb·suc-zero, eqb·suc-suc}
 use Rattle.rules.specs.Lists.{NumberSet}
 use Rattle.rules.specs.Records.{bit}
@@ -85,6 +86,16 @@ bit-shifted (suc i) x =
     ap (λ z. x / z) (pow-suc 2 i ∙ mul-comm (2 ^ i) 2) ∙ sym (div-div-eq-div-mul x 2 (2 ^ i)) in
     rw e (bit-shifted i (x / 2))
 
+-- and so is each above it
+pub bit-above : (a i x : ℕ) → bitAt (x / 2 ^ a) i ≡ bitAt x (a + i)
+unfolding bitAt
+bit-above zero i x = let e : x / 2 ^ 0 ≡ x = omega arith in let f : 0 + i ≡ i = omega arith in ap (λ z. bitAt z i) e ∙ ap (bitAt x) (sym f)
+bit-above (suc a) i x =
+    let e : x / 2 ^ suc a ≡ x / 2 / 2 ^ a =
+    ap (λ z. x / z) (pow-suc 2 a ∙ mul-comm (2 ^ a) 2) ∙ sym (div-div-eq-div-mul x 2 (2 ^ a)) in
+    let f : suc a + i ≡ suc (a + i) = omega arith in
+    ap (λ z. bitAt z i) e ∙ bit-above a i (x / 2) ∙ ap (bitAt x) (sym f)
+
 pub bit-tested : (i x : ℕ) → eqb (bitAnd (x / 2 ^ i) 1) 1 ≡ bitAt x i
 bit-tested i x = ap (λ z. eqb z 1) (and-mask (x / 2 ^ i) 1) ∙ sym (bit-shifted i x)
 
@@ -101,3 +112,30 @@ bitsFrom-bits (suc k) a x s l h =
     bitsFrom-bits k (suc a) (x / 2) s (omega (arith, pow-suc 2 k))
     (λ i m. let next : suc a + i ≡ a + suc i = omega arith in ap s next ∙ h (suc i) (omega arith)) in
     omega arith
+
+-- THE LOWEST ONE: no bit below it is set,
+pub trailing-clear : (k x i : ℕ) → i < trailingZeros k x → bitAt x i ≡ false
+unfolding trailingZeros bitAt
+trailing-clear zero x i l = absurd (omega arith)
+trailing-clear (suc k) x zero l =
+    parity-elim (λ r. zero < under r (trailingZeros k (x / 2)) → eqb r 1 ≡ false) (λ _. refl) (λ h. absurd (omega arith)) x l
+trailing-clear (suc k) x (suc i) l =
+    trailing-clear k (x / 2) i
+    (parity-elim (λ r. suc i < under r (trailingZeros k (x / 2)) → i < trailingZeros k (x / 2)) (λ h. omega arith) (λ h. absurd (omega arith)) x l)
+
+-- a number's bit at the place of its lowest one, by the place in its half
+lowest-set : (x n : ℕ) → (x % 2 ≡ 0 → bitAt (x / 2) n ≡ true) → bitAt x (under (x % 2) n) ≡ true
+unfolding bitAt
+lowest-set x n later = go (x % 2) refl (let h : x % 2 < 2 = omega arith in h)
+  where
+    go : (r : ℕ) → x % 2 ≡ r → r < 2 → bitAt x (under r n) ≡ true
+    go zero e h = later e
+    go (suc zero) e h = rw e
+    go (suc (suc r)) e h = absurd (omega arith)
+
+-- and it is, if it stands among the first k
+pub trailing-set : (k x : ℕ) → trailingZeros k x < k → bitAt x (trailingZeros k x) ≡ true
+unfolding trailingZeros
+trailing-set zero x l = absurd (omega arith)
+trailing-set (suc k) x l =
+    lowest-set x (trailingZeros k (x / 2)) (λ e. trailing-set k (x / 2) (let m : suc (trailingZeros k (x / 2)) < suc k = rw e at l in omega arith))

@@ -1,9 +1,9 @@
 // Live sets as rows of words: value v at bit v mod 64 of word v / 64 of its row. Every function says what it does to the
 // sets of a whole table, `rows`; that fixes each word of the table, to its end (`rows-same` of specs/Tables.antt).
 ghost use mathlib.Core.Path.{_≡_};
-ghost use mathlib.Core.Bool.{_&&_, _||_, not};
+ghost use mathlib.Core.Bool.{true, false, _&&_, _||_, not};
 ghost use mathlib.Core.List.{_∷_, []};
-ghost use Prim.Native.Nat.{ℕ, _%_, _^_, _<_};
+ghost use Prim.Native.Nat.{ℕ, _+_, _/_, _%_, _^_, _<_, _≤_, min};
 ghost use Rattle.rules.specs.Lists.{update, union, adding, removing};
 ghost use Rattle.rows.specs.Bits.{bitAt};
 ghost use Rattle.rows.specs.Rows.{rows, rowValues, HasRow, byRule, size};
@@ -110,4 +110,38 @@ pub fn count(t: &[u64], row: usize) -> usize
         v += 1;
     }
     found
+}
+
+// How many bits of a word stand below its lowest one, 64 for the word that has none.
+fn zeros_below(word: u64) -> usize
+    ensures { λ r. ⌜ (r ≤ 64) × ((i : ℕ) → i < r → bitAt word i ≡ false) × (r < 64 → bitAt word r ≡ true) ⌝ }
+{
+    u64::trailing_zeros(word) as usize
+}
+
+// The lesser of two numbers.
+fn least(a: usize, b: usize) -> usize
+    ensures { λ r. ⌜ r ≡ min a b ⌝ }
+{
+    if a < b {
+        return a;
+    }
+    b
+}
+
+// The first value from v on and below end that a row has, end where there is none. A word without one is passed over whole.
+pub fn next_in(t: &[u64], row: usize, v: usize, end: usize) -> usize
+    requires { ⌜ HasRow (now t) row × (v ≤ end) × (end ≤ rowValues) ⌝ }
+    ensures { λ r. ⌜ (v ≤ r) × (r ≤ end) × ((u : ℕ) → v ≤ u → u < r → rows (now (t .entry)) row u ≡ false) × (r < end → rows (now (t .entry)) row r ≡ true) ⌝ }
+{
+    let mut at = v;
+    while at < end {
+        let bit = at % WORD_BITS;
+        let skipped = zeros_below(t[ROW_WORDS * row + at / WORD_BITS] >> bit);
+        if bit + skipped < WORD_BITS {
+            return least(at + skipped, end);
+        }
+        at += WORD_BITS - bit;
+    }
+    end
 }

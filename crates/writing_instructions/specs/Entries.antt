@@ -1,21 +1,15 @@
 -- Map entries: what is written for the values on a list, ascending.
-use Prim.Native.Nat.{ℕ, _+_, _-_, _*_, _/_, _%_, _<_}
-use mathlib.Core.Path.{_≡_, refl, ap, _∙_}
+use Prim.Native.Nat.{ℕ, _-_, _<_, _≤_}
+use mathlib.Core.Path.{_≡_, refl, sym, ap, _∙_}
 use mathlib.Core.Bool.{Bool, true, false}
-use mathlib.Core.List.{List, [], _∷_, _++_, map}
+use mathlib.Core.List.{List, [], _∷_, _++_, map, append-nil}
 use native.Mathlib.Omega.{arith}
-use lib.ListN.{getD}
-use lib.Dec.{eqb, eqb→eq}
-use Rattle.rules.specs.Limits.{rowWords}
 use Rattle.rules.specs.Lists.{keep, concatMap, upFrom, NumberSet, members}
 use Rattle.rules.specs.Tree.{MapEntry}
 use Rattle.rules.specs.Rewriting.{mapEntry}
 use Rattle.rules.specs.declared.Record.{Record}
 use Rattle.rules.specs.declared.Record.the-variants as record′
-use Rattle.lists.specs.Tests.{test-elim, neqb→ne}
-use Rattle.rows.specs.Bits.{bitAt, bit-zero}
-use Rattle.rows.specs.Rows.{rows, rowValues, rows-word}
-use Rattle.writing.specs.Places.{fromTo, fromTo-same}
+use Rattle.writing.specs.Places.{fromTo, fromTo-split, fromTo-same}
 
 module _ (size slot : ℕ → ℕ) (set : NumberSet) where
   -- the entry of a value, if it is on the list
@@ -54,25 +48,20 @@ module _ (size slot : ℕ → ℕ) (set : NumberSet) where
   pub entry-unlisted : (v : ℕ) → set v ≡ false → entryAt v ≡ []
   entry-unlisted v e = ap {B = List Record} (λ b. elim b [ true ↦ record′.MapEntry (slot v) (size v) ∷ [] | false ↦ [] ]) e
 
-  -- an empty list has none
-  pub entries-none : (n : ℕ) → ((v : ℕ) → v < n → set v ≡ false) → entriesBelow n ≡ []
+  -- where nothing is written at any place
+  nothing-written : (v r : ℕ) → fromTo (λ _. []) v r ≡ []
   unfolding fromTo
-  entries-none n h = fromTo-same entryAt (λ _. []) 0 n (λ v _ m. entry-unlisted v (h v m)) ∙ nothing-written (upFrom 0 (n - 0))
+  nothing-written v r = go (upFrom v (r - v))
     where
-      nothing-written : (vs : List ℕ) → concatMap {B = Record} (λ _. []) vs ≡ []
-      nothing-written [] = refl
-      nothing-written (v ∷ vs) = nothing-written vs
+      go : (us : List ℕ) → concatMap {B = Record} (λ _. []) us ≡ []
+      go [] = refl
+      go (u ∷ us) = go us
 
--- a row of which each word is 0 has no value
-pub row-empty :
-    (t : List ℕ) (row : ℕ) → ((k : ℕ) → k < rowWords → getD t (rowWords * row + k) 0 ≡ 0) → (v : ℕ) → v < rowValues → rows t row v ≡ false
-row-empty t row h v l =
-    rows-word t row v l ∙ ap (λ (x : ℕ). bitAt x (v % 64)) (h (v / 64) (omega arith)) ∙ bit-zero (v % 64)
-
--- one word more that is 0
-pub zeros-more :
-    (t : List ℕ) (row k : ℕ) → ((j : ℕ) → j < k → getD t (rowWords * row + j) 0 ≡ 0) → getD t (rowWords * row + k) 0 ≡ 0
-    → (j : ℕ) → j < k + 1 → getD t (rowWords * row + j) 0 ≡ 0
-zeros-more t row k h e j l =
-    test-elim (eqb j k) (λ y. ap (λ (i : ℕ). getD t (rowWords * row + i) 0) (eqb→eq j k y) ∙ e)
-    (λ n. h j (let other = neqb→ne j k n in omega (arith, other, l)))
+  -- the values that are passed over have none
+  pub entries-passed :
+      (v r : ℕ) → v ≤ r → ((u : ℕ) → v ≤ u → u < r → set u ≡ false) → entriesBelow v ≡ entriesBelow r
+  entries-passed v r l none =
+      sym
+      (fromTo-split entryAt 0 v r (omega arith) l
+      ∙ ap (λ (t : List Record). entriesBelow v ++ t) (fromTo-same entryAt (λ _. []) v r (λ u l m. entry-unlisted u (none u l m)) ∙ nothing-written v r)
+      ∙ append-nil (entriesBelow v))

@@ -1,22 +1,18 @@
 -- `listing::numbers::list_numbers` meets its contract.
-use borrow.Author.Needs.{needs}
-use Rattle.listing.proofs.Noting.{numbersFrom, numbersFrom-all, numbersFrom-done, noted-more, left-more}
-use Rattle.rows.specs.Rows.{rows, rowValues}
-use Rattle.graph.specs.Sections.{placeIf}
-use Rattle.listing.specs.Ascending.{ascending}
-use native.Mathlib.Omega.{arith}
-use lib.Seq.{sets, length-sets}
-use lib.ListN.{length}
-use mathlib.Core.List.{[]}
+use Prim.Native.Nat.{_≤_, _-_, _+_}
 use mathlib.Core.Path.{_≡_, refl, sym, _∙_, ap}
-use Prim.Native.Nat.{ℕ, _≤_, _<_, _-_, _+_}
+use lib.ListN.{length}
+use lib.Seq.{sets}
+use native.Mathlib.Omega.{arith}
+use Rattle.listing.specs.Ascending.{ascending}
+use Rattle.rows.specs.Rows.{rows, rowValues}
+use Rattle.listing.proofs.Noting.{numbersFrom, numbersFrom-all, numbersFrom-done, numbersFrom-passed, noted-more, left-more}
+use borrow.Author.Needs.{needs}
 use Rattle.listing.proofs.numbers.list_numbers.Statement.{statement}
 use Rattle.listing.proofs.numbers.list_numbers.Tie as tie
 
 abbrev Inv-loop : tie.InvT-loop
-Inv-loop t row out₀ found₀ v₀ out found v =
-    (v ≤ rowValues) × (length out ≡ length out₀) × (found + length (numbersFrom (rows t row) v) ≡ length (ascending (rows t row)))
-    × (sets out found (numbersFrom (rows t row) v) ≡ sets out₀ 0 (ascending (rows t row)))
+Inv-loop t row out₀ found₀ v₀ out found v = (v ≤ rowValues) × (length out ≡ length out₀) × (found + length (numbersFrom (rows t row) v) ≡ length (ascending (rows t row))) × (sets out found (numbersFrom (rows t row) v) ≡ sets out₀ 0 (ascending (rows t row)))
 
 abbrev μ-loop : tie.MeasureT-loop
 μ-loop t row out₀ found₀ v₀ out found v = rowValues - v
@@ -35,21 +31,26 @@ note-requires c κs =
     let l = left-more set (c .before .before .before .loop .v) (c .before .before .loop-test .taken) (c .contains .result) (c .contains .ensures) in
     (omega (arith, l, c .before .before .before .loop .inv .2, c .before .before .before .loop .inv .1, c .before .before .before .before .before .before .pre .1), c .before .before .loop-test .taken)
 
-add-v : tie.Need-add-v Inv-loop μ-loop
-add-v c = omega (arith, c .before .before .before .before .before .loop-test .taken)
+add-next-in : tie.Need-add-next-in Inv-loop μ-loop
+add-next-in c = omega (arith, c .before .before .before .before .before .loop-test .taken)
+
+next-in-requires : tie.Need-next-in-requires Inv-loop μ-loop
+next-in-requires c κs = (c .before .before .before .before .before .before .before .before .before .pre .0, omega (arith, c .before .before .before .before .before .loop-test .taken), omega arith)
 
 loop-less : tie.Need-loop-less Inv-loop μ-loop
-loop-less c = omega (arith, c .before .before .before .before .before .loop-test .taken)
+loop-less c = omega (arith, c .before .before .before .before .before .before .loop-test .taken, c .next-in .ensures .0)
 
 loop-again : tie.Need-loop-again Inv-loop μ-loop
 loop-again c =
-    let set = rows (c .before .before .before .before .before .before .before .before .before .args .t .now) (c .before .before .before .before .before .before .before .before .before .args .row) in
-    let l = left-more set (c .before .before .before .before .before .before .loop .v) (c .before .before .before .before .before .loop-test .taken) (c .before .before .before .contains .result) (c .before .before .before .contains .ensures) in
-    let m = noted-more set (c .before .before .before .before .before .before .loop .v) (c .before .before .before .before .before .loop-test .taken) (c .before .before .before .contains .result) (c .before .before .before .contains .ensures) (c .before .before .before .before .before .before .loop .out) (c .before .before .before .before .before .before .loop .found) in (
-      omega arith,
+    let set = rows (c .before .before .before .before .before .before .before .before .before .before .args .t .now) (c .before .before .before .before .before .before .before .before .before .before .args .row) in
+    let here = c .before .before .before .before .before .before .before .loop in
+    let l = left-more set (here .v) (c .before .before .before .before .before .before .loop-test .taken) (c .before .before .before .before .contains .result) (c .before .before .before .before .contains .ensures) in
+    let m = noted-more set (here .v) (c .before .before .before .before .before .before .loop-test .taken) (c .before .before .before .before .contains .result) (c .before .before .before .before .contains .ensures) (here .out) (here .found) in
+    let passed = numbersFrom-passed set (here .v + 1) (c .next-in .result) (c .next-in .ensures .0) (c .next-in .ensures .1) (c .next-in .ensures .2) in (
+      c .next-in .ensures .1,
       search needs,
-      omega (arith, l, c .before .before .before .before .before .before .loop .inv .2, c .before .before .note .ensures .1),
-      (λ k. sets (c .before .before .note .ensures .0 k) (c .before .before .note .ensures .1 k) (numbersFrom set (c .before .before .before .before .before .before .loop .v + 1))) ∙ sym m ∙ c .before .before .before .before .before .before .loop .inv .3,
+      omega (arith, l, here .inv .2, c .before .before .before .note .ensures .1, ap length passed),
+      (λ k. sets (c .before .before .before .note .ensures .0 k) (c .before .before .before .note .ensures .1 k) (sym passed k)) ∙ sym m ∙ here .inv .3,
     )
 
 same-length : tie.Need-same-length Inv-loop μ-loop
@@ -71,7 +72,8 @@ list-numbers-spec =
     loop-holds
     contains-requires
     note-requires
-    add-v
+    add-next-in
+    next-in-requires
     loop-less
     loop-again
     same-length

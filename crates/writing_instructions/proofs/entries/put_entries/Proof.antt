@@ -1,34 +1,93 @@
 -- `writing_instructions::entries::put_entries` meets its contract.
-use Rattle.writing_instructions.specs.Entries.{entries-none}
-use Rattle.writing.specs.Wrote.{wrote-as, wrote-none}
-use Rattle.writing.specs.Parts.{slotIn}
-use Rattle.rows.specs.Rows.{rows}
-use Rattle.rules.specs.Graph.{sizeOf}
-use Rattle.rules.specs.File.{functionIn}
+use mathlib.Core.Path.{_≡_, refl}
 use native.Mathlib.Omega.{arith}
-use mathlib.Core.List.{[]}
-use mathlib.Core.Path.{sym}
+use Prim.Native.Nat.{_+_, _≤_, _-_}
+use Rattle.rules.specs.File.{functionIn}
+use Rattle.rules.specs.Graph.{sizeOf}
+use Rattle.rows.specs.Rows.{rows}
+use Rattle.writing.specs.Parts.{slotIn}
+use Rattle.writing.specs.Wrote.{Wrote, lent-room}
+use Rattle.writing.specs.Places.{fromTo, wrote-start, wrote-turn, turn-room}
+use Rattle.writing_instructions.specs.Entries.{entryAt, entries-passed}
 use borrow.Author.Needs.{needs}
 use Rattle.writing_instructions.proofs.entries.put_entries.Statement.{statement}
 use Rattle.writing_instructions.proofs.entries.put_entries.Tie as tie
 
-is-empty-requires : tie.Need-is-empty-requires
-is-empty-requires c κs = search needs
+abbrev Inv-loop : tie.InvT-loop
+Inv-loop s slots lists i values out₀ at₀ v₀ out at v = (v ≤ values) × Wrote out₀ (fromTo (entryAt (sizeOf (functionIn s)) (slotIn slots) (rows lists i)) 0 v) at out
 
-returns : tie.Need-returns
-returns c =
-    let empty = entries-none (sizeOf (functionIn (c .before .before .before .before .before .before .args .s .now))) (slotIn (c .before .before .before .before .before .before .args .slots .now)) (rows (c .before .before .before .before .before .before .args .lists .now) (c .before .before .before .before .before .before .args .i)) (c .before .before .before .before .before .before .args .values) (λ v l. c .before .is-empty .ensures (c .if1 .taken) v (omega (arith, l, c .before .before .before .before .before .before .pre .2))) in
-    wrote-as [] _ (sym empty) (wrote-none _)
+abbrev μ-loop : tie.MeasureT-loop
+μ-loop s slots lists i values out₀ at₀ v₀ out at v = values - v
 
-put-listed-requires : tie.Need-put-listed-requires
-put-listed-requires c κs = search needs
+loop-holds : tie.Need-loop-holds Inv-loop μ-loop
+loop-holds c = (search needs, wrote-start _ _ _)
 
-same-length : tie.Need-same-length
+sub-put-entry-if : tie.Need-sub-put-entry-if Inv-loop μ-loop
+sub-put-entry-if c =
+    let g = entryAt (sizeOf (functionIn (c .before .before .before .before .before .before .args .s .now))) (slotIn (c .before .before .before .before .before .before .args .slots .now)) (rows (c .before .before .before .before .before .before .args .lists .now) (c .before .before .before .before .before .before .args .i)) in
+    let fits = turn-room g 0 (c .before .loop .v) (omega arith) (c .before .before .before .before .before .before .args .values) (c .loop-test .taken) (c .before .before .before .before .before .before .pre .3) (c .before .loop .inv .1) in
+    omega arith
+
+part-put-entry-if-start : tie.Need-part-put-entry-if-start Inv-loop μ-loop
+part-put-entry-if-start c =
+    let g = entryAt (sizeOf (functionIn (c .before .before .before .before .before .before .args .s .now))) (slotIn (c .before .before .before .before .before .before .args .slots .now)) (rows (c .before .before .before .before .before .before .args .lists .now) (c .before .before .before .before .before .before .args .i)) in
+    let fits = turn-room g 0 (c .before .loop .v) (omega arith) (c .before .before .before .before .before .before .args .values) (c .loop-test .taken) (c .before .before .before .before .before .before .pre .3) (c .before .loop .inv .1) in
+    omega arith
+
+part-put-entry-if-end : tie.Need-part-put-entry-if-end Inv-loop μ-loop
+part-put-entry-if-end c = search needs
+
+put-entry-if-requires : tie.Need-put-entry-if-requires Inv-loop μ-loop
+put-entry-if-requires c κs =
+    let g = entryAt (sizeOf (functionIn (c .before .before .before .before .before .before .before .args .s .now))) (slotIn (c .before .before .before .before .before .before .before .args .slots .now)) (rows (c .before .before .before .before .before .before .before .args .lists .now) (c .before .before .before .before .before .before .before .args .i)) in
+    let fits = turn-room g 0 (c .before .before .loop .v) (omega arith) (c .before .before .before .before .before .before .before .args .values) (c .before .loop-test .taken) (c .before .before .before .before .before .before .before .pre .3) (c .before .before .loop .inv .1) in
+    (c .before .before .before .before .before .before .before .pre .0, c .before .before .before .before .before .before .before .pre .1, omega (arith, c .before .loop-test .taken, c .before .before .before .before .before .before .before .pre .2), lent-room (c .before .before .loop .out) (c .before .before .loop .at) (g (c .before .before .loop .v)) (g (c .before .before .loop .v)) refl fits)
+
+add-at : tie.Need-add-at Inv-loop μ-loop
+add-at c =
+    let g = entryAt (sizeOf (functionIn (c .before .before .before .before .before .before .before .before .before .before .args .s .now))) (slotIn (c .before .before .before .before .before .before .before .before .before .before .args .slots .now)) (rows (c .before .before .before .before .before .before .before .before .before .before .args .lists .now) (c .before .before .before .before .before .before .before .before .before .before .args .i)) in
+    omega (arith, turn-room g 0 (c .before .before .before .before .before .loop .v) (omega arith) (c .before .before .before .before .before .before .before .before .before .before .args .values) (c .before .before .before .before .loop-test .taken) (c .before .before .before .before .before .before .before .before .before .before .pre .3) (c .before .before .before .before .before .loop .inv .1), c .before .before .put-entry-if .ensures .count)
+
+add-next-in : tie.Need-add-next-in Inv-loop μ-loop
+add-next-in c = search needs
+
+next-in-requires : tie.Need-next-in-requires Inv-loop μ-loop
+next-in-requires c κs = (c .before .before .before .before .before .before .before .before .before .before .pre .1, omega (arith, c .before .before .before .before .loop-test .taken), c .before .before .before .before .before .before .before .before .before .before .pre .2)
+
+loop-less : tie.Need-loop-less Inv-loop μ-loop
+loop-less c = omega (arith, c .before .before .before .before .before .loop-test .taken, c .next-in .ensures .0)
+
+loop-again : tie.Need-loop-again Inv-loop μ-loop
+loop-again c =
+    let size = sizeOf (functionIn (c .before .before .before .before .before .before .before .before .before .before .before .args .s .now)) in
+    let slot = slotIn (c .before .before .before .before .before .before .before .before .before .before .before .args .slots .now) in
+    let set = rows (c .before .before .before .before .before .before .before .before .before .before .before .args .lists .now) (c .before .before .before .before .before .before .before .before .before .before .before .args .i) in
+    let g = entryAt size slot set in
+    let fits = turn-room g 0 (c .before .before .before .before .before .before .loop .v) (omega arith) (c .before .before .before .before .before .before .before .before .before .before .before .args .values) (c .before .before .before .before .before .loop-test .taken) (c .before .before .before .before .before .before .before .before .before .before .before .pre .3) (c .before .before .before .before .before .before .loop .inv .1) in
+    let turned = wrote-turn g 0 (c .before .before .before .before .before .before .loop .v) (omega arith) (g (c .before .before .before .before .before .before .loop .v)) refl (c .before .before .before .before .before .before .loop .inv .1) (omega arith) (c .before .before .before .put-entry-if .ensures) in
+    (c .next-in .ensures .1, rw (entries-passed size slot set (c .before .before .before .before .before .before .loop .v + 1) (c .next-in .result) (c .next-in .ensures .0) (c .next-in .ensures .2)) at turned)
+
+same-length : tie.Need-same-length Inv-loop μ-loop
 same-length c = search needs
 
-returns-2 : tie.Need-returns-2
-returns-2 c = search needs
+returns : tie.Need-returns Inv-loop μ-loop
+returns c = let e : c .before .loop .v ≡ c .before .before .before .before .before .before .args .values = omega arith in rw e at (c .before .loop .inv .1)
 
 pub put-entries-spec : {M : Type 1} → statement M
 put-entries-spec =
-    tie.close (tie.spec is-empty-requires returns put-listed-requires same-length returns-2)
+    tie.close
+    (tie.spec
+    Inv-loop
+    μ-loop
+    loop-holds
+    sub-put-entry-if
+    part-put-entry-if-start
+    part-put-entry-if-end
+    put-entry-if-requires
+    add-at
+    add-next-in
+    next-in-requires
+    loop-less
+    loop-again
+    same-length
+    returns)
