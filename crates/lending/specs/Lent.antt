@@ -132,39 +132,41 @@ module _ {M : Type 1} {𝓤 : URA M} {H : Heap 𝓤} {A : Atoms 𝓤} {K : Type 
 -- CALLS.
 module _ {M : Type 1} {𝓤 : URA M} {H : Heap 𝓤} {A : Atoms 𝓤} {K : Type 0} {W : Given 𝓤 H A} {Γ : List (Item 𝓤)} {E : Env 𝓤 H} {C : Calls 𝓤 H} {Λ : Loops 𝓤 H} {q : Post 𝓤 H} {d : Place} {rest : Code} where
   -- a result at its machine value, whatever value the call returned
-  returned : (v : Val) {R : RattleType} (E′ : Spelt R) (x : R .Denot) → Is R x (v ∷ [])
-      → (Is R x (E′ .value x ∷ []) → Seq K W Γ (lands C Λ E d (E′ .value x) rest q)) → Seq K W Γ (lands C Λ E d v rest q)
-  returned v {R} E′ x is k =
-      let e : v ≡ E′ .value x = ap only (E′ .tells x (v ∷ []) is) in
+  returned : (v : Val) {R : RattleType} (spelt : Spelt R) (x : R .Denot) → Is R x (v ∷ [])
+      → (Is R x (spelt .value x ∷ []) → Seq K W Γ (lands C Λ E d (spelt .value x) rest q)) → Seq K W Γ (lands C Λ E d v rest q)
+  returned v {R} spelt x is k =
+      let e : v ≡ spelt .value x = ap only (spelt .tells x (v ∷ []) is) in
       subst (λ (u : Val). Seq K W Γ (lands C Λ E d u rest q)) (sym e) (k (subst (λ (u : Val). Is R x (u ∷ [])) e is))
 
 module _ {M : Type 1} {𝓤 : URA M} {H : Heap 𝓤} {A : Atoms 𝓤} {K : Type 0} {W : Given 𝓤 H A} {Γ : List (Item 𝓤)} {E : Env 𝓤 H} {C : Calls 𝓤 H} {Λ : Loops 𝓤 H} {q : Post 𝓤 H} {f : Name} {d : Place} {xs : List Operand} {rest : Code} where
-  -- By value: what the callee asks is had for nothing, and of what it says, Q is kept.
+  -- By value: what the callee asks is had for nothing. It says Q of its result, and of last values what `lasts` is, which is let go. Each operand is
+  -- read below one item more.
   pub calls-core : K → FmC 𝓤 H (W .laws) C → (c : Contract 𝓤) → Triple 𝓤 (C f) c → (y : c .Ghost) → ent 𝓤 (emp 𝓤) (c .pre y)
-      → {R : RattleType} (E′ : Spelt R) (Q : R .Denot → Type 0) {Z : R .Denot → Type 0} (lasts : (x : R .Denot) → Z x → Fml)
+      → {R : RattleType} (spelt : Spelt R) (Q : R .Denot → Type 0) {Z : R .Denot → Type 0} (lasts : (x : R .Denot) → Z x → Fml)
       → ((v : Val) → ent 𝓤 (c .post y v) (H .⇛ (ex 𝓤 (λ (x : R .Denot). sep 𝓤 (sep 𝓤 (sem 𝓤 H A ftrue) (sem 𝓤 H A (R .own x (v ∷ [])))) (ex 𝓤 (λ (z : Z x). sep 𝓤 (sem 𝓤 H A (lasts x z)) (fact 𝓤 (Q x))))))))
       → ((i : Item 𝓤) → Opds K W (i ∷ Γ) E xs (c .args y))
-      → ((x : R .Denot) → Is R x (E′ .value x ∷ []) → Q x → Seq K W Γ (lands C Λ E d (E′ .value x) rest q))
+      → ((x : R .Denot) → Is R x (spelt .value x ∷ []) → Q x → Seq K W Γ (lands C Λ E d (spelt .value x) rest q))
       → Seq K W Γ (runs C Λ E (seq (call f xs d) rest) q)
-  calls-core t fm c known y asked {R} E′ Q {Z} lasts told os k =
+  calls-core t fm c known y asked {R} spelt Q {Z} lasts told os k =
       use0 W (raw (c .pre y)) asked $ calls-at t fm c known y (os _) (λ v.
       use1 W (later (some (λ (x : R .Denot). (‵ ftrue ⊛ ‵ (R .own x (v ∷ []))) ⊛ some (λ (z : Z x). ‵ (lasts x z) ⊛ raw (fact 𝓤 (Q x)))))) (told v) $ await t tt $ pick t (λ x. split t $
       move t (1 ∷ []) $ pick t (λ z. split t $ drop t $ heard t (Q x) (λ h. split t $ drop t $
-      peeks t R (Is R) (shows 𝓤 H A R) x (v ∷ []) (λ is. drop t $ returned v E′ x is (λ is′. k x is′ h))))))
+      peeks t R (Is R) (shows 𝓤 H A R) x (v ∷ []) (λ is. drop t $ returned v spelt x is (λ is′. k x is′ h))))))
 
-  -- A local is lent: for a lifetime ν of the call, under a name δ, and taken back at the last value.
+  -- A local at l is lent: for a lifetime ν of the call, under a name δ, and taken back at the last value. Q is said of the result and that value. Each
+  -- operand is read below two items more, in place of the local's cell.
   pub calls-lending : K → FmC 𝓤 H (W .laws) C → (c : Contract 𝓤) → Triple 𝓤 (C f) c → (S : Plain) (l : ℕ) (h : S .type .D) → Valued S h
       → (y : ℕ → GName → c .Ghost)
       → ((ν : ℕ) (δ : GName) → ent 𝓤 (sep 𝓤 (A .lft (ν ∷ []) fullShare) (sem 𝓤 H A (MutRef (named 0) (ν ∷ []) (rowOf S) .own (record { ptr = (l, 0); name = δ; now = h }) (vptr l 0 ∷ [])))) (c .pre (y ν δ)))
-      → {R : RattleType} (E′ : Spelt R) (Q : R .Denot → S .type .D → Type 0) {Z : R .Denot → S .type .D → Type 0} (lasts : (x : R .Denot) (r : S .type .D) → Z x r → Fml)
+      → {R : RattleType} (spelt : Spelt R) (Q : R .Denot → S .type .D → Type 0) {Z : R .Denot → S .type .D → Type 0} (lasts : (x : R .Denot) (r : S .type .D) → Z x r → Fml)
       → ((ν : ℕ) (δ : GName) (v : Val) → ent 𝓤 (c .post (y ν δ) v)
       (H .⇛ (ex 𝓤 (λ (x : R .Denot). sep 𝓤 (sep 𝓤 (sep 𝓤 (A .lft (ν ∷ []) fullShare) (sem 𝓤 H A ftrue)) (sem 𝓤 H A (R .own x (v ∷ []))))
       (ex 𝓤 (λ (z : (r : S .type .D) × Z x r). sep 𝓤 (sem 𝓤 H A (fsep (fres δ (rowOf S .coded .code (z .0))) (lasts x (z .0) (z .1)))) (fact 𝓤 (Q x (z .0)))))))))
       → ((i j : Item 𝓤) (ν : ℕ) (δ : GName) → Opds K W (i ∷ j ∷ Γ) E xs (c .args (y ν δ)))
-      → ((x : R .Denot) (r : S .type .D) → Is R x (E′ .value x ∷ []) → Valued S r → Q x r → Seq K W (‵ (fat fullShare (typeOf S) l 0 (valueOf S r)) ∷ Γ) (lands C Λ E d (E′ .value x) rest q))
+      → ((x : R .Denot) (r : S .type .D) → Is R x (spelt .value x ∷ []) → Valued S r → Q x r → Seq K W (‵ (fat fullShare (typeOf S) l 0 (valueOf S r)) ∷ Γ) (lands C Λ E d (spelt .value x) rest q))
       → Seq K W (‵ (fat fullShare (typeOf S) l 0 (valueOf S h)) ∷ Γ) (runs C Λ E (seq (call f xs d) rest) q)
   unfolding partOf
-  calls-lending t fm c known S l h is y goes {R} E′ Q {Z} lasts told os k =
+  calls-lending t fm c known S l h is y goes {R} spelt Q {Z} lasts told os k =
       seen-lies t S h l 0 is $ fjoin t $ fpack t (List Val) (λ vs. fsep (cellAt fullShare (rowOf S .mir) vs l 0) (rowOf S .own h vs)) (valueOf S h ∷ []) $
       lft-new t tt (λ ν. move t (1 ∷ []) $
       use1 W (later (some (λ (δ : GName). ‵ (MutRef (named 0) (ν ∷ []) (rowOf S) .own (record { ptr = (l, 0); name = δ; now = h }) (vptr l 0 ∷ [])) ⊛ ‵ (flent (ν ∷ []) (Body (mem (rowOf S)) l 0 δ))))) (lends-ref 𝓤 H A W (rowOf S) (named 0) (ν ∷ []) h l 0) $ await t tt $ pick t (λ δ. split t $
@@ -177,10 +179,11 @@ module _ {M : Type 1} {𝓤 : URA M} {H : Heap 𝓤} {A : Atoms 𝓤} {K : Type 
       split t $ lft-end t tt $ move t (0 ∷ 4 ∷ 2 ∷ []) $
       use3 W (later (‵ (partAt (rowOf S) fullShare (z .0) l 0))) (ref-back 𝓤 H A W (rowOf S) (ν ∷ []) δ (z .0) l 0) $ await t tt $
       move t (1 ∷ []) $ drop t $ move t (1 ∷ []) $ drop t $
-      fpick t (λ vs. fsplit t $ lies-seen t S (z .0) l 0 vs (λ is′. returned v E′ x of (λ of′. k x (z .0) of′ is′ e))))))))))
+      fpick t (λ vs. fsplit t $ lies-seen t S (z .0) l 0 vs (λ is′. returned v spelt x of (λ of′. k x (z .0) of′ is′ e))))))))))
 
 -- THE END.
 module _ {M : Type 1} {𝓤 : URA M} {H : Heap 𝓤} {A : Atoms 𝓤} {K : Type 0} {W : Given 𝓤 H A} {Γ : List (Item 𝓤)} where
+  -- a local's cell, at n, and what frees it, at m of the others, are given up
   pub ends : K → (n m : ℕ) {τ : Ty} {b : ℕ} {v : Val} {E : Env 𝓤 H} {g : Goal 𝓤 H} → nth 𝓤 H A n Γ ≡ ‵ (fat fullShare τ b zero v) → nth 𝓤 H A m (del 𝓤 H A n Γ) ≡ ‵ (fdies τ b)
       → Step K W (del 𝓤 H A m (del 𝓤 H A n Γ)) (frees E g) Γ (frees ((τ, b) ∷ E) g)
   ends t n m {τ} {b} {v} cell dies =
@@ -195,6 +198,7 @@ module _ {M : Type 1} {𝓤 : URA M} {H : Heap 𝓤} {A : Atoms 𝓤} {K : Type 
       })
 
 module _ {M : Type 1} (𝓤 : URA M) (H : Heap 𝓤) (A : Atoms 𝓤) (W : Given 𝓤 H A) (𝓣 : Tables 𝓤 H) (e : Fn) (F : Ended) (hs : Stays (F .signature .params) (F .kept)) (c : Clauses 𝓤 F) where
+  -- the walk is from the entry, at the parameters' machine values, for every choice of lifetimes, shares and arguments
   pub meets-by : AllGo 𝓤 H A W (F .signature .lifetimes) (F .signature .params) (F .kept) hs
       → (sp : (κs : Lfts (F .signature .lifetimes)) → Spells (typesAt (F .signature .params) κs)) → ((κs : Lfts (F .signature .lifetimes)) → Tellss (typesAt (F .signature .params) κs) (Ises (typesAt (F .signature .params) κs)) (sp κs))
       → ((κs : Lfts (F .signature .lifetimes)) (qs : Shares (F .signature .lifetimes)) (bounds : AllOutlive (F .signature .lifetimes) (F .signature .outlives) κs) (a : Args (F .signature) κs) (g : c κs a .ghost)

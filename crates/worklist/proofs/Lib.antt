@@ -1,3 +1,3 @@
 pub mod Keeping
-pub mod Lent
 pub mod Places
+pub mod Walks

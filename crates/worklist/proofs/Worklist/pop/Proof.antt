@@ -33,7 +33,7 @@ use denote.Signature.{plain}
 use Rattle.lending.specs.Lent.{had, had-number, rowOf, valueOf, Valued, fits, struct-spelt, opens-lent, closes-lent, calls-core, ends, meets-by}
 use Rattle.worklist.specs.declared.Worklist.{Worklist}
 use Rattle.worklist.specs.declared.Popped.{Popped}
-use Rattle.worklist.proofs.Lent.{worklist, popped, Poppable, Taken, is-block, is-rest}
+use Rattle.worklist.proofs.Walks.{worklist, popped, Poppable, Taken, is-block, is-rest}
 use Rattle.worklist.proofs.Worklist.popped as core
 use Rattle.worklist.proofs.Worklist.popped.Symbol as core-def
 use Rattle.worklist.proofs.Worklist.popped.Symbol.{name as #core}

@@ -32,7 +32,7 @@ use denote.Exit.{yes}
 use Rattle.lending.specs.Lent.{had, rowOf, valueOf, Valued, fits, number-spelt, calls-lending, ends, meets-by}
 use Rattle.worklist.specs.declared.Worklist.{Worklist}
 use Rattle.worklist.specs.declared.Popped.{Popped}
-use Rattle.worklist.proofs.Lent.{worklist, popped, Poppable, Taken, answer, is-answer}
+use Rattle.worklist.proofs.Walks.{worklist, popped, Poppable, Taken, answer, is-answer}
 use Rattle.worklist.proofs.Worklist.pop as method
 use Rattle.worklist.proofs.Worklist.pop.Symbol as method-def
 use Rattle.worklist.proofs.Worklist.pop.Symbol.{name as #method}

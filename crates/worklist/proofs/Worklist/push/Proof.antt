@@ -35,7 +35,7 @@ use denote.Exit.{yes}
 use denote.Signature.{plain}
 use Rattle.lending.specs.Lent.{had, had-number, rowOf, valueOf, Valued, fits, struct-spelt, opens-lent, closes-lent, calls-core, ends, meets-by}
 use Rattle.worklist.specs.declared.Worklist.{Worklist}
-use Rattle.worklist.proofs.Lent.{worklist, Pushable, Pushed}
+use Rattle.worklist.proofs.Walks.{worklist, Pushable, Pushed}
 use Rattle.worklist.proofs.Worklist.moved_to_top as core
 use Rattle.worklist.proofs.Worklist.moved_to_top.Symbol as core-def
 use Rattle.worklist.proofs.Worklist.moved_to_top.Symbol.{name as #core}

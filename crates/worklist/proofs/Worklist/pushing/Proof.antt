@@ -33,7 +33,7 @@ use denote.Triple.Walked.{says, needs, Stays, stay-none, walkOf, goes-none, ends
 use denote.Exit.{yes}
 use Rattle.lending.specs.Lent.{had, had-number, rowOf, valueOf, Valued, fits, nothing-spelt, calls-lending, ends, meets-by}
 use Rattle.worklist.specs.declared.Worklist.{Worklist}
-use Rattle.worklist.proofs.Lent.{worklist, Pushable, Pushed}
+use Rattle.worklist.proofs.Walks.{worklist, Pushable, Pushed}
 use Rattle.worklist.proofs.Worklist.push as method
 use Rattle.worklist.proofs.Worklist.push.Symbol as method-def
 use Rattle.worklist.proofs.Worklist.push.Symbol.{name as #method}
