@@ -83,7 +83,7 @@ fn push_predecessors(
     let mut tag = first[b];
     while tag > 0 {
         let entry = tag - 1;
-        worklist = worklist.push(from[entry]);
+        worklist = worklist.pushing(from[entry]);
         pushed += 1;
         tag = next[entry];
     }
@@ -111,7 +111,7 @@ fn visit(
     ensures { λ r. ⌜ ((c : Compact) → Stands (now (ins .entry)) (now (outs .entry)) at c → Stands (now (ins .exit)) (now (outs .exit)) r (stepTop (functionIn (now (s .entry))) c)) ⌝ }
 {
     let worklist = at.worklist;
-    let popped = worklist.pop();
+    let popped = worklist.popping();
     let b = popped.block;
     let rest = popped.rest;
     let left = Progress {
@@ -142,7 +142,7 @@ fn start_worklist(order: &[usize], count: usize) -> Worklist
     let mut i = count;
     while i > 0 {
         i -= 1;
-        worklist = worklist.push(order[i]);
+        worklist = worklist.pushing(order[i]);
     }
     worklist
 }

@@ -1,5 +1,6 @@
 // The worklist of liveness: a stack in which pushing moves a block to the top, so that as many places do as there can be
-// blocks. `entries` of specs/Entries.antt is what stands on it, top first.
+// blocks. `entries` of specs/Entries.antt is what stands on it, top first. It is changed where it stands, by `push` and `pop`, which
+// are thin: a by-value core does the work. `pushing` and `popping` take a worklist by value, for callers that lend nothing.
 ghost use mathlib.Core.Path.{_≡_};
 ghost use mathlib.Core.Bool.{false, not};
 ghost use mathlib.Core.List.{[], _∷_};
@@ -59,9 +60,9 @@ impl Worklist {
         self.count == 0
     }
 
-    // The block moves to the top, or is put there. Every entry is written behind those kept before it, and what is written
-    // behind the block's own is written over it.
-    pub fn push(self, block: usize) -> Worklist
+    // The core of a push: the block moves to the top, or is put there. Every entry is written behind those kept before it, and
+    // what is written behind the block's own is written over it.
+    fn moved_to_top(self, block: usize) -> Worklist
         requires { ⌜ Stacked (entries self) × (block < largestBlocks) ⌝ }
         ensures { λ r. ⌜ (entries r ≡ moveToTop block (entries self)) × Stacked (entries r) ⌝ }
     {
@@ -84,8 +85,8 @@ impl Worklist {
         }
     }
 
-    // The entry on top is taken off, where there is one.
-    pub fn pop(self) -> Popped
+    // The core of a pop: the entry on top is taken off, where there is one.
+    fn popped(self) -> Popped
         requires { ⌜ Stacked (entries self) × (empty (entries self) ≡ false) ⌝ }
         ensures { λ r. ⌜ (entries self ≡ r .block ∷ entries (r .rest)) × Stacked (entries (r .rest)) ⌝ }
     {
@@ -96,5 +97,41 @@ impl Worklist {
             block,
             rest: Worklist { blocks, count: top },
         }
+    }
+
+    // The block moves to the top of the worklist that is lent, or is put there.
+    pub fn push(&mut self, block: usize)
+        requires { ⌜ Stacked (entries (now self)) × (block < largestBlocks) ⌝ }
+        ensures { λ _. ⌜ (entries (now (self .exit)) ≡ moveToTop block (entries (now (self .entry)))) × Stacked (entries (now (self .exit))) ⌝ }
+    {
+        *self = self.moved_to_top(block);
+    }
+
+    // The entry on top is taken off the worklist that is lent, where there is one.
+    pub fn pop(&mut self) -> usize
+        requires { ⌜ Stacked (entries (now self)) × (empty (entries (now self)) ≡ false) ⌝ }
+        ensures { λ r. ⌜ (entries (now (self .entry)) ≡ r ∷ entries (now (self .exit))) × Stacked (entries (now (self .exit))) ⌝ }
+    {
+        let popped = self.popped();
+        *self = popped.rest;
+        popped.block
+    }
+
+    // A push on a worklist that is handed over and back.
+    pub fn pushing(mut self, block: usize) -> Worklist
+        requires { ⌜ Stacked (entries self) × (block < largestBlocks) ⌝ }
+        ensures { λ r. ⌜ (entries r ≡ moveToTop block (entries self)) × Stacked (entries r) ⌝ }
+    {
+        self.push(block);
+        self
+    }
+
+    // A pop off a worklist that is handed over and back.
+    pub fn popping(mut self) -> Popped
+        requires { ⌜ Stacked (entries self) × (empty (entries self) ≡ false) ⌝ }
+        ensures { λ r. ⌜ (entries self ≡ r .block ∷ entries (r .rest)) × Stacked (entries (r .rest)) ⌝ }
+    {
+        let block = self.pop();
+        Popped { block, rest: self }
     }
 }

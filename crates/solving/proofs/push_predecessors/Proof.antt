@@ -28,14 +28,14 @@ loop-holds c = let start = c .before .before .before .before .before in pushing-
 sub-entry : tie.Need-sub-entry Inv-loop μ-loop
 sub-entry c = search needs
 
-mul-push : tie.Need-mul-push Inv-loop μ-loop
-mul-push c = omega (arith, pushing-entry _ _ _ _ _ _ (c .before .loop .inv) (c .loop-test .taken))
+mul-pushing : tie.Need-mul-pushing Inv-loop μ-loop
+mul-pushing c = omega (arith, pushing-entry _ _ _ _ _ _ (c .before .loop .inv) (c .loop-test .taken))
 
-shared-slice-read-push : tie.Need-shared-slice-read-push Inv-loop μ-loop
-shared-slice-read-push c = omega (arith, pushing-entry _ _ _ _ _ _ (c .before .before .loop .inv) (c .before .loop-test .taken))
+shared-slice-read-pushing : tie.Need-shared-slice-read-pushing Inv-loop μ-loop
+shared-slice-read-pushing c = omega (arith, pushing-entry _ _ _ _ _ _ (c .before .before .loop .inv) (c .before .loop-test .taken))
 
-push-requires : tie.Need-push-requires Inv-loop μ-loop
-push-requires c κs = pushing-block _ _ _ _ _ _ (c .before .before .loop .inv) (c .before .loop-test .taken)
+pushing-requires : tie.Need-pushing-requires Inv-loop μ-loop
+pushing-requires c κs = pushing-block _ _ _ _ _ _ (c .before .before .loop .inv) (c .before .loop-test .taken)
 
 add-pushed : tie.Need-add-pushed Inv-loop μ-loop
 add-pushed c = search needs
@@ -51,7 +51,7 @@ loop-less c = pushing-less _ _ _ _ _ _ (c .before .before .before .before .loop 
 
 loop-again : tie.Need-loop-again Inv-loop μ-loop
 loop-again c =
-    let push = c .before .push in
+    let push = c .before .pushing in
     pushing-more _ _ _ _ _ _ (c .before .before .before .before .loop .inv) (c .before .before .before .loop-test .taken) _
     (record { left = push .ensures .0; stacked = push .ensures .1; visits = refl; pushes = omega arith })
 
@@ -71,9 +71,9 @@ push-predecessors-spec =
     shared-slice-read-tag
     loop-holds
     sub-entry
-    mul-push
-    shared-slice-read-push
-    push-requires
+    mul-pushing
+    shared-slice-read-pushing
+    pushing-requires
     add-pushed
     mul-tag-2
     shared-slice-read-tag-2

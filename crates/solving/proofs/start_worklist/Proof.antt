@@ -31,14 +31,14 @@ loop-holds c =
 sub-i : tie.Need-sub-i Inv-loop μ-loop
 sub-i c = search needs
 
-mul-push : tie.Need-mul-push Inv-loop μ-loop
-mul-push c = omega (arith, c .before .before .before .before .pre .0, c .before .loop .inv .0)
+mul-pushing : tie.Need-mul-pushing Inv-loop μ-loop
+mul-pushing c = omega (arith, c .before .before .before .before .pre .0, c .before .loop .inv .0)
 
-shared-slice-read-push : tie.Need-shared-slice-read-push Inv-loop μ-loop
-shared-slice-read-push c = search needs
+shared-slice-read-pushing : tie.Need-shared-slice-read-pushing Inv-loop μ-loop
+shared-slice-read-pushing c = search needs
 
-push-requires : tie.Need-push-requires Inv-loop μ-loop
-push-requires c κs =
+pushing-requires : tie.Need-pushing-requires Inv-loop μ-loop
+pushing-requires c κs =
     let start = c .before .before .before .before .before in
     (c .before .before .loop .inv .2, starting-below (start .args .order .now) (start .args .count) (start .pre .0) (start .pre .1) _ (search needs))
 
@@ -49,7 +49,7 @@ loop-again : tie.Need-loop-again Inv-loop μ-loop
 loop-again c =
     let start = c .before .before .before .before .before .before in
     let loop = c .before .before .before .loop in
-    let push = c .push in (
+    let push = c .pushing in (
       search needs,
       push .ensures .0 ∙ ap (moveToTop _) (loop .inv .1)
           ∙ starting-more (start .args .order .now) (start .args .count) (start .pre .0) (start .pre .1) (loop .i) (c .before .before .loop-test .taken) (loop .inv .0),
@@ -72,9 +72,9 @@ start-worklist-spec =
     new-requires
     loop-holds
     sub-i
-    mul-push
-    shared-slice-read-push
-    push-requires
+    mul-pushing
+    shared-slice-read-pushing
+    pushing-requires
     loop-less
     loop-again
     returns)

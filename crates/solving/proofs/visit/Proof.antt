@@ -5,8 +5,8 @@ use borrow.Author.Needs.{needs}
 use Rattle.solving.proofs.visit.Statement.{statement}
 use Rattle.solving.proofs.visit.Tie as tie
 
-pop-requires : tie.Need-pop-requires
-pop-requires c κs = search needs
+popping-requires : tie.Need-popping-requires
+popping-requires c κs = search needs
 
 add-t16 : tie.Need-add-t16
 add-t16 c = search needs
@@ -15,12 +15,12 @@ add-live-requires : tie.Need-add-live-requires
 add-live-requires c κs =
     let start = c .before .before .before .before .before .before .before .before .before .before .before .before .before .before .before in
     let ready = start .pre .4 in
-    (start .pre .0, start .pre .1, start .pre .3, top-in-file (functionIn (start .args .s .now)) (start .args .at) ready _ _ (c .before .before .before .before .pop .ensures .0))
+    (start .pre .0, start .pre .1, start .pre .3, top-in-file (functionIn (start .args .s .now)) (start .args .at) ready _ _ (c .before .before .before .before .popping .ensures .0))
 
 push-predecessors-requires : tie.Need-push-predecessors-requires
 push-predecessors-requires c κs =
     let start = c .before .before .before .before .before .before .before .before .before .before .before .before .before .before .before .before .before .before .before .before .before in
-    let pop = c .before .before .before .before .before .before .before .before .before .before .pop in
+    let pop = c .before .before .before .before .before .before .before .before .before .before .popping in
     predecessors-pushable (functionIn (start .args .s .now)) (start .args .at) (start .pre .4) _ _ (pop .ensures .0)
     _ (start .pre .0 .inFile) (start .pre .1 .few) _ _ _ (start .pre .2) (pop .ensures .1)
 
@@ -34,7 +34,7 @@ returns : tie.Need-returns
 returns c =
     λ state stands.
     let start = c .before .before .before .before .before .before .before .before .before .before .before .before .before .before .before .before .before .before .before .before .before .before in
-    let pop = c .before .before .before .before .before .before .before .before .before .before .before .pop in
+    let pop = c .before .before .before .before .before .before .before .before .before .before .before .popping in
     let f = functionIn (start .args .s .now) in
     let listed = start .pre .2 .lists _ (top-in-file f (start .args .at) (start .pre .4) _ _ (pop .ensures .0)) in
     stands-grown f (start .args .at) (start .pre .4) _ _ (pop .ensures .0) _ _ _ _ _ (c .before .before .before .before .before .before .add-live .ensures) state stands (c .before .if1 .taken)
@@ -50,14 +50,14 @@ returns-2 : tie.Need-returns-2
 returns-2 c =
     λ state stands.
     let start = c .before .before .before .before .before .before .before .before .before .before .before .before .before .before .before .before .before .before .before .before .before in
-    stands-idle (functionIn (start .args .s .now)) (start .args .at) (start .pre .4) _ _ (c .before .before .before .before .before .before .before .before .before .before .pop .ensures .0) _ _ _ _ _ (c .before .before .before .before .before .add-live .ensures)
+    stands-idle (functionIn (start .args .s .now)) (start .args .at) (start .pre .4) _ _ (c .before .before .before .before .before .before .before .before .before .before .popping .ensures .0) _ _ _ _ _ (c .before .before .before .before .before .add-live .ensures)
     state stands (c .if1 .left)
 
 pub visit-spec : {M : Type 1} → statement M
 visit-spec =
     tie.close
     (tie.spec
-    pop-requires
+    popping-requires
     add-t16
     add-live-requires
     push-predecessors-requires
