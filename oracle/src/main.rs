@@ -126,10 +126,7 @@ fn library(options: &[&str]) -> Result<(), String> {
     let (files, seed) = files_and_seed(options)?;
     let start = Instant::now();
     let met = refusals_batch(check, seed, files);
-    for ((family, refusal), count) in &met.counts {
-        let said = if *refusal == 0 { "accepted".to_string() } else { format!("refused {refusal}") };
-        println!("{:12} {count:>8} {said}", format!("{family:?}"));
-    }
+    print!("{met}");
     let mut differences = met.differences;
     differences.extend(services_batch(whole_answers, &mut Library, seed, files));
     let seconds = start.elapsed().as_secs_f64();
@@ -151,7 +148,9 @@ fn guarded(options: &[&str]) -> Result<(), String> {
     use oracle::library::{Library, any_numbers, check};
     let (files, seed) = files_and_seed(options)?;
     let start = Instant::now();
-    let mut differences = refusals_batch(|file| shown(file, check), seed, files).differences;
+    let met = refusals_batch(|file| shown(file, check), seed, files);
+    print!("{met}");
+    let mut differences = met.differences;
     differences.extend(services_batch(every_length, &mut Guarded::new(Library), seed, files));
     differences.extend(any_numbers(seed, files).err());
     let seconds = start.elapsed().as_secs_f64();

@@ -23,7 +23,7 @@ pub fn whole_answers(
     invented_answer(subject, decision, random)
 }
 
-/// The same with every pair of table lengths and more lists and invented answers: some sixty calls a file.
+/// The same with every pair of table lengths and more lists and invented answers: some seventy calls a file.
 pub fn every_length(
     subject: &mut dyn Services,
     decision: &mut Decision,
