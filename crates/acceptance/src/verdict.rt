@@ -9,9 +9,9 @@ use checks::counts::too_many;
 use checks::definitions::not_defined_once;
 use checks::numbers::not_in_file;
 use checks::order::malformed;
-use checks::soundness::unsound;
 use rules::RECORD_BYTES;
 use rules::Verdict;
+use soundness::unsound;
 
 // Document 01's number of a verdict, 0 where the call is answered.
 pub fn refusal_number(v: Verdict) -> u32

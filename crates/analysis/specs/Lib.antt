@@ -1,1 +1,2 @@
 pub mod Analysis
+pub mod Live

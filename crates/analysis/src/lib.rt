@@ -6,6 +6,8 @@ use graph::predecessors::link_predecessors;
 use solving::LivenessCounts;
 use solving::solve;
 
+pub mod tables;
+
 // Both live tables of a file that was surveyed and not refused, with the tables that the process needs.
 pub fn analyse(
     s: &[u8],

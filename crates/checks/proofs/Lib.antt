@@ -1,9 +1,7 @@
 pub mod Counting
-pub mod FittingCases
 pub mod InFile
 pub mod Noting
 pub mod Numbering
 pub mod Ordering
-pub mod StandingCases
 pub mod Table
 pub mod Upward

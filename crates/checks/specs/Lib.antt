@@ -1,7 +1,2 @@
 pub mod Numbers
 pub mod Definitions
-pub mod Standing
-pub mod Ending
-pub mod Holding
-pub mod Fitting
-pub mod Soundness

@@ -1,8 +1,5 @@
-// Refusals 3 to 7: each test of document 01 as a function.
+// Refusals 3 to 6: each test of document 01 as a function.
 pub mod counts;
 pub mod definitions;
-pub mod fitting;
 pub mod numbers;
 pub mod order;
-pub mod soundness;
-pub mod standing;

@@ -10,12 +10,12 @@ use Rattle.rules.specs.Lists.{NumberSet}
 use Rattle.rules.specs.Records.{kind, recordAt}
 use Rattle.rules.specs.declared.Record.{Record}
 use Rattle.lists.specs.Tests.{eq→eqb, chosen, left-out}
-use Rattle.writing.specs.declared.edges.EdgePart.the-variants as edge
+use Rattle.writing_edges.specs.declared.edges.EdgePart.the-variants as edge
 use Rattle.writing.specs.declared.parts.Part.the-variants as part
 use Rattle.writing.specs.Next.{nextPlace}
 use Rattle.writing.specs.Places.{fromTo}
-use Rattle.writing.specs.ByPlace.{onKind}
-use Rattle.layout.specs.Runs.{partsRun, edgesRun, instructionRun}
+use Rattle.writing_edges.specs.ByPlace.{onKind}
+use Rattle.writing_instructions.specs.Runs.{partsRun, edgesRun, instructionRun}
 
 -- how many instructions start before place p: the number of the one that starts there
 abbrev pub numberAt : List ℕ → ℕ → ℕ

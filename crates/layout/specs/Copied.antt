@@ -27,7 +27,7 @@ use Rattle.graph.specs.Sections.{placeIf, places}
 use Rattle.graph.specs.Placed.{placesOf, placeTable}
 use Rattle.graph.specs.Blocks.{placeOf, sectionOf, length-blockPlaces, place-le, place-less, block-body, blockAt-by-place}
 use Rattle.writing.specs.Places.{fromTo, fromTo-none, fromTo-more}
-use Rattle.layout.specs.Remade.{block-remade, instruction-remade}
+use Rattle.writing_instructions.specs.Remade.{block-remade, instruction-remade}
 use Rattle.layout.specs.BlockRuns.{copyAt}
 
 -- LISTS of which the first ones are empty

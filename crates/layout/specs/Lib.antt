@@ -1,7 +1,3 @@
-pub mod Entries
-pub mod Runs
-pub mod Remade
-pub mod Instruction
 pub mod BlockRuns
 pub mod Copied
 pub mod Numbered

@@ -23,18 +23,18 @@ use Rattle.graph.specs.Blocks.{placeOf, sectionOf, place-le, place-less, blockA
 use Rattle.numbering.specs.Beside.{instructionPlanAt, instructionPlansAt, blockPlanAt}
 use Rattle.listing.specs.Crossings.{listed}
 use Rattle.listing.specs.Stepping.{headsFrom}
-use Rattle.writing.specs.declared.edges.EdgePart.the-variants as edge
+use Rattle.writing_edges.specs.declared.edges.EdgePart.the-variants as edge
 use Rattle.writing.specs.declared.parts.Part.the-variants as part
 use Rattle.writing.specs.Parts.{slotIn, itemsRecords}
 use Rattle.writing.specs.Next.{nextPlace, nextPlace-bounds}
 use Rattle.writing.specs.Places.{fromTo, fromTo-same}
-use Rattle.writing.specs.Zips.{concatMap-concatZip}
-use Rattle.writing.specs.ByPlace.{onKind, sectionFrom, besideAt, sectioned, sections-by-place}
-use Rattle.writing.specs.Edges.{edgeRecordsOf}
-use Rattle.writing.specs.Instructions.{stores-by-place, parameters-by-place, edges-by-place}
-use Rattle.layout.specs.Instruction.{instructionAt, instruction-by-place}
-use Rattle.layout.specs.Remade.{block-remade}
-use Rattle.layout.specs.Runs.{partsRun, edgesRun, instructionRun}
+use Rattle.writing_edges.specs.Zips.{concatMap-concatZip}
+use Rattle.writing_edges.specs.ByPlace.{onKind, sectionFrom, besideAt, sectioned, sections-by-place}
+use Rattle.writing_edges.specs.Edges.{edgeRecordsOf}
+use Rattle.writing_edges.specs.Instructions.{stores-by-place, parameters-by-place, edges-by-place}
+use Rattle.writing_instructions.specs.Instruction.{instructionAt, instruction-by-place}
+use Rattle.writing_instructions.specs.Remade.{block-remade}
+use Rattle.writing_instructions.specs.Runs.{partsRun, edgesRun, instructionRun}
 use Rattle.layout.specs.BlockRuns.{numberAt, landingPartAt, instructionIf, instructionPartAt, blockRun, number-same}
 use Rattle.layout.specs.Copied.{block-head}
 use Rattle.layout.specs.Numbered.{Numbered, numbered-from, listsBelow, length-block-heads, number-place, list-in-block, list-row}

@@ -18,9 +18,9 @@ use Rattle.lists.specs.Tests.{chosen}
 use Rattle.records.specs.Values.{valueOf, noValue, value-in-place, value-record}
 use Rattle.numbering.specs.NewValues.{unmarked, newValues}
 use Rattle.writing.specs.Places.{fromTo, fromTo-same}
-use Rattle.writing.specs.Zips.{map-concat}
+use Rattle.writing_edges.specs.Zips.{map-concat}
 use Rattle.layout.specs.BlockRuns.{copyAt}
-use Rattle.layout.specs.Remade.{value-remade}
+use Rattle.writing_instructions.specs.Remade.{value-remade}
 
 -- a new value, and a slot, by its size in a table
 abbrev pub newValueAt : List ℕ → ℕ → List Record

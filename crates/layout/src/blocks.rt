@@ -9,15 +9,15 @@ ghost use Rattle.writing.specs.Parts.{Readable};
 ghost use Rattle.writing.specs.Places.{fromTo};
 ghost use Rattle.writing.specs.Wrote.{room, Wrote};
 ghost use Rattle.layout.specs.BlockRuns.{numberAt, instructionIf, instructionPartAt, landingPartAt, headRun, blockRun, copyAt};
-use crate::instructions::put_instruction;
 use records::kind_of;
 use records::record_at;
-use writing::edges::EdgePart;
-use writing::edges::put_edges;
 use writing::parts::Part;
 use writing::put::put;
 use writing::run::next_place;
 use writing::run::put_parts;
+use writing_edges::edges::EdgePart;
+use writing_edges::edges::put_edges;
+use writing_instructions::instructions::put_instruction;
 
 // What is written for the record at place p, if it starts an instruction, among records that end before place end; the
 // instruction's list is row i.

@@ -28,8 +28,8 @@ use Rattle.listing.specs.Crossings.{crossingsBelow}
 use Rattle.numbering.specs.Beside.{blockPlanAt}
 use Rattle.planning.specs.Standing.{Tables, planOf, Kept}
 use Rattle.spiller.specs.Instructions.{anyKind}
-use Rattle.spiller.specs.Noted.{Within, Able, able-less, able-then, Noted, noted-none, noted-more}
-use Rattle.spiller.specs.Stable.{Agree, mades-same}
+use Rattle.planning_edges.specs.Noted.{Within, Able, able-less, able-then, Noted, noted-none, noted-more}
+use Rattle.planning_edges.specs.Stable.{Agree, mades-same}
 use Rattle.planner.specs.Backward.{plans-same}
 use Rattle.planner.specs.Blocks.{BlockGiven, BlockReady, BlockNoted}
 use Rattle.planner.specs.BlockTables.{PlanTables, block-given}

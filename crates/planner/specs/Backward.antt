@@ -23,12 +23,12 @@ use Rattle.listing.specs.Stepping.{headsFrom, spot, BlockRecords, heads-more, h
 use Rattle.rows.specs.Rows.{rows, HasRow}
 use Rattle.numbering.specs.Beside.{instructionPlanAt, instructionPlansAt}
 use Rattle.planning.specs.Standing.{Tables, planOf, Good, Kept}
-use Rattle.spiller.specs.Edges.{EdgesIn}
+use Rattle.planning_edges.specs.Edges.{EdgesIn}
 use Rattle.spiller.specs.Instructions.{anyKind, listIf, InstructionNoted}
 use Rattle.spiller.specs.InstructionSteps.{InstructionRecords, InstructionReady}
-use Rattle.spiller.specs.Noted.{Within, Blank, Able, able-then, able-less, Noted, noted-none, noted-before}
-use Rattle.spiller.specs.Spans.{places-parted}
-use Rattle.spiller.specs.Stable.{Agree, mades-same, edges-same}
+use Rattle.planning_edges.specs.Noted.{Within, Blank, Able, able-then, able-less, Noted, noted-none, noted-before}
+use Rattle.planning_edges.specs.Spans.{places-parted}
+use Rattle.planning_edges.specs.Stable.{Agree, mades-same, edges-same}
 
 -- what is known of the edges of every instruction of the file
 abbrev pub SoundEdges : List ℕ → Type 0

@@ -34,9 +34,9 @@ use Rattle.planning.specs.SlotsGiven.{slotted-ran}
 use Rattle.planning.specs.Walking.{kept-none, kept-more}
 use Rattle.spiller.specs.Instructions.{anyKind}
 use Rattle.spiller.specs.InstructionSteps.{run-ready, definitions-done}
-use Rattle.spiller.specs.Noted.{Within, Able, able-less, able-then, Noted, Ready, _without_, ready-then, ready-less}
+use Rattle.planning_edges.specs.Noted.{Within, Able, able-less, able-then, Noted, Ready, _without_, ready-then, ready-less}
 use Rattle.spiller.specs.Parted.{runEnd, run-parts, chain-past, places-none, ofKind-other}
-use Rattle.spiller.specs.Spans.{places-parted}
+use Rattle.planning_edges.specs.Spans.{places-parted}
 use Rattle.planner.specs.Backward.{SoundEdges, listedAt, InstructionsNoted, Walk, plans-same}
 
 -- what is noted beside a block's records

@@ -31,7 +31,7 @@ use Rattle.planning.specs.declared.Progress.{Progress}
 use Rattle.planning.specs.Operands.{Reading}
 use Rattle.planning.specs.Standing.{Tables, tables, noted, slotsBy, planOf, Good}
 use Rattle.planning.specs.Walking.{good-less}
-use Rattle.spiller.specs.Noted.{SameBut, Able}
+use Rattle.planning_edges.specs.Noted.{SameBut, Able}
 use Rattle.planner.specs.AllBlocks.{Firsts, InBlocks, widths, BlocksNoted}
 use Rattle.planner.specs.BlockTables.{PlanTables}
 use Rattle.planner.specs.declared.functions.FunctionSize.{FunctionSize}

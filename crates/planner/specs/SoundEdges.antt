@@ -23,12 +23,12 @@ use Rattle.records.specs.InOrder.{chain}
 use Rattle.records.specs.Kinds.{Kinds}
 use Rattle.records.specs.Leading.{leading, arguments-lead, chain-behind}
 use Rattle.records.specs.Parts.{argument, inBody, body-allowed, targets-in-order}
-use Rattle.checks.specs.Fitting.{argumentsFirst, edgeFits, fitting, edgesFit, fitting-instructions}
+use Rattle.soundness.specs.Fitting.{argumentsFirst, edgeFits, fitting, edgesFit, fitting-instructions}
 use Rattle.graph.specs.Between.{between, between-more, between-all, between-rest}
 use Rattle.graph.specs.Sections.{placeIf, places}
 use Rattle.graph.specs.Tables.{Given}
 use Rattle.listing.specs.Across.{sectionAt, between-parted}
-use Rattle.spiller.specs.Spans.{nextEdgePlace, next-bounds, none-before-next}
+use Rattle.planning_edges.specs.Spans.{nextEdgePlace, next-bounds, none-before-next}
 use Rattle.planner.specs.Backward.{SoundEdges}
 
 -- a test of what the records of a kind name, at the place of one

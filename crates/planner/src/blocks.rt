@@ -10,7 +10,7 @@ ghost use Rattle.planning.specs.Standing.{tables};
 ghost use Rattle.rows.specs.Rows.{rows};
 ghost use Rattle.listing.specs.Stepping.{headsFrom};
 ghost use Rattle.spiller.specs.Instructions.{anyKind};
-ghost use Rattle.spiller.specs.Noted.{Within, Ready};
+ghost use Rattle.planning_edges.specs.Noted.{Within, Ready};
 ghost use Rattle.planner.specs.Backward.{LastBefore, Walk, InstructionsNoted};
 ghost use Rattle.planner.specs.Blocks.{BlockGiven, BlockReady, BlockNoted};
 use listing::blocks::count_instructions;

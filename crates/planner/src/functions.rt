@@ -10,7 +10,7 @@ ghost use Rattle.graph.specs.Tables.{Given};
 ghost use Rattle.graph.specs.Zeros.{Zeros};
 ghost use Rattle.planning.specs.Operands.{Reading};
 ghost use Rattle.planning.specs.Standing.{tables};
-ghost use Rattle.spiller.specs.Noted.{Able};
+ghost use Rattle.planning_edges.specs.Noted.{Able};
 ghost use Rattle.planner.specs.AllBlocks.{Firsts, BlocksNoted};
 ghost use Rattle.planner.specs.BlockTables.{PlanTables};
 ghost use Rattle.planner.specs.FirstNumbers.{NumberedTo};

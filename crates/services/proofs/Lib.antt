@@ -1,4 +1,3 @@
-pub mod Lines
 pub mod ListAnswers
 pub mod LiveAnswers
 pub mod RewriteAnswers

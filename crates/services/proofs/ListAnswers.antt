@@ -29,7 +29,7 @@ use Rattle.listing.specs.Crossings.{listed}
 use Rattle.acceptance.specs.Stages.{firstOf-append, functionPasses}
 use Rattle.acceptance.specs.Survey.{SurveyTables, BlankTables, Surveyed, accepted-is, accepted-passes, surveyed-walked, Indexed}
 use Rattle.acceptance.specs.declared.survey.BlockCounts.{BlockCounts}
-use Rattle.services.specs.Live.{Lent}
+use Rattle.analysis.specs.Live.{Lent}
 use Rattle.services.specs.ListRow.{rowAnswer, rowNumbers}
 
 -- THE ROW'S ANSWER: too short, or its values

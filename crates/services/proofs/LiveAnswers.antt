@@ -28,7 +28,7 @@ use Rattle.rows.specs.Tables.{Words64, table-padded}
 use Rattle.acceptance.specs.Stages.{thenRefused, file-then, functionPasses}
 use Rattle.acceptance.specs.Survey.{SurveyTables, BlankTables, Surveyed, Accepted, accepted-is, accepted-passes, surveyed-walked}
 use Rattle.acceptance.specs.declared.survey.BlockCounts.{BlockCounts}
-use Rattle.services.specs.Live.{Lent}
+use Rattle.analysis.specs.Live.{Lent}
 
 -- A cleared buffer that is long enough is blank.
 pub cleared-blank : (t : List ℕ) (n k : ℕ) → t ≡ replicate n 0 → k ≤ n → Blank k t

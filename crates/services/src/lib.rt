@@ -3,6 +3,4 @@ pub mod check;
 pub mod finals;
 pub mod list;
 pub mod liveness;
-pub mod program;
 pub mod rewrite;
-mod tables;

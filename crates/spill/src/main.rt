@@ -1,11 +1,11 @@
 // The program: a function file from standard input, rewritten for pointers of 8 bytes, to standard output.
 use libc::STDIN_FILENO;
 use libc::STDOUT_FILENO;
-use services::program::PROGRAM_INPUT;
-use services::program::PROGRAM_OUTPUT;
-use services::program::refused_line;
-use services::program::respond;
-use services::program::to_write;
+use program::PROGRAM_INPUT;
+use program::PROGRAM_OUTPUT;
+use program::refused_line;
+use program::respond;
+use program::to_write;
 
 fn main() {
     // One byte more than the largest input, so that a longer one is told.

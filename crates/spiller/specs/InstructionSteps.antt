@@ -21,13 +21,13 @@ use Rattle.planning.specs.declared.Progress.{Progress}
 use Rattle.planning.specs.Operands.{Range, useAt, defineAt}
 use Rattle.planning.specs.Standing.{Tables, tables, Good, Ran, Walked, Rows, Slotted}
 use Rattle.planning.specs.SlotsGiven.{slotted-ran}
-use Rattle.spiller.specs.Edges.{edgeStep, EdgesIn, edgesBetween, EdgesNoted}
+use Rattle.planning_edges.specs.Edges.{edgeStep, EdgesIn, edgesBetween, EdgesNoted}
 use Rattle.spiller.specs.Instructions.{anyKind, InstructionNoted, DefinitionsNoted, UsesNoted, plain-noted, safepoint-noted}
-use Rattle.spiller.specs.Landings.{edgeKind}
-use Rattle.spiller.specs.Noted.{Within, Blank, Able, able-then, Ready, _without_, ready-then, ready-less}
+use Rattle.planning_edges.specs.Landings.{edgeKind}
+use Rattle.planning_edges.specs.Noted.{Within, Blank, Able, able-then, Ready, _without_, ready-then, ready-less}
 use Rattle.spiller.specs.Parted.{Parted, parted-by, runEnd}
-use Rattle.spiller.specs.Spans.{edgePlaces}
-use Rattle.spiller.specs.ReadBack.{uses-noted, definitions-noted}
+use Rattle.planning_edges.specs.Spans.{edgePlaces}
+use Rattle.planning_edges.specs.ReadBack.{uses-noted, definitions-noted}
 
 -- THE RECORDS OF AN INSTRUCTION, from its own to before place end
 pub record InstructionRecords (s : List ℕ) (place end : ℕ) : Type 0 where

@@ -15,11 +15,11 @@ use Rattle.listing.specs.Across.{sectionAt}
 use Rattle.numbering.specs.Beside.{madeAt, madesBetween, edgePlansAt, instructionPlanAt}
 use Rattle.planning.specs.Standing.{Tables, planOf, Kept, Ran}
 use Rattle.planning.specs.Walking.{kept-none, kept-more}
-use Rattle.spiller.specs.Edges.{edgeStep, EdgesNoted, edgesBetween}
-use Rattle.spiller.specs.Noted.{Within, Noted}
+use Rattle.planning_edges.specs.Edges.{edgeStep, EdgesNoted, edgesBetween}
+use Rattle.planning_edges.specs.Noted.{Within, Noted}
 use Rattle.spiller.specs.Parted.{Parted, arguments-there, argument-places, results-there, result-places, edges-there, edges-are}
-use Rattle.spiller.specs.Spans.{edgePlaces}
-use Rattle.spiller.specs.Stable.{mades-same, edges-same}
+use Rattle.planning_edges.specs.Spans.{edgePlaces}
+use Rattle.planning_edges.specs.Stable.{mades-same, edges-same}
 
 -- every kind
 abbrev pub anyKind : ℕ → Bool

@@ -23,10 +23,10 @@ use Rattle.records.specs.Parts.{inBody, isInstruction, body-chained, body-allow
 use Rattle.graph.specs.Between.{between, between-none, between-more, between-next}
 use Rattle.graph.specs.Sections.{places, sectionsAt, cut-between}
 use Rattle.listing.specs.Across.{sectionAt, between-parted}
-use Rattle.spiller.specs.Edges.{edgesBetween}
-use Rattle.spiller.specs.Landed.{behindFirst}
-use Rattle.spiller.specs.ReadBack.{length-places}
-use Rattle.spiller.specs.Spans.{edgePlaces, places-parted}
+use Rattle.planning_edges.specs.Edges.{edgesBetween}
+use Rattle.planning_edges.specs.Landed.{behindFirst}
+use Rattle.planning_edges.specs.ReadBack.{length-places}
+use Rattle.planning_edges.specs.Spans.{edgePlaces, places-parted}
 
 -- where the records of kind k at the front end
 unfoldable pub runEnd : List ℕ → ℕ → ℕ → ℕ → ℕ

@@ -11,12 +11,12 @@ ghost use Rattle.rows.specs.Rows.{rows, HasRow};
 ghost use Rattle.spiller.specs.Instructions.{listIf, InstructionNoted};
 ghost use Rattle.spiller.specs.InstructionSteps.{InstructionRecords, InstructionReady};
 ghost use Rattle.spiller.specs.Parted.{runEnd};
-use crate::edges::plan_edges;
 use listing::instructions::is_safepoint;
 use planning::Progress;
 use planning::asks::ask_all;
 use planning::runs::plan_definitions;
 use planning::runs::plan_uses;
+use planning_edges::edges::plan_edges;
 use records::kind_of;
 use records::record_at;
 

@@ -1,4 +1,2 @@
-// `SafepointSpiller`, as far as one instruction: slots and numbers for landings, edges and instructions, over lent tables.
-pub mod edges;
+// `SafepointSpiller`, as far as one instruction: slots and numbers for its results, its list, its edges and its uses.
 pub mod instructions;
-pub mod landings;

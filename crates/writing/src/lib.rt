@@ -1,5 +1,4 @@
 // The rewritten function, written in layout order: each writer is lent the unwritten rest of the output and fills its front.
-pub mod edges;
 pub mod parts;
 pub mod put;
 pub mod run;

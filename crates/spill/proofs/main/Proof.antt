@@ -3,7 +3,7 @@ use mathlib.Core.Path.{sym}
 use lib.Seq.{length-take-le}
 use Rattle.rules.specs.Refusals.{refusalNumber}
 use Rattle.rules.specs.Services.{refusedLine}
-use Rattle.services.specs.Program.{line-there}
+use Rattle.program.specs.Program.{line-there}
 use borrow.Author.Needs.{needs}
 use Rattle.spill.proofs.main.Statement.{statement}
 use Rattle.spill.proofs.main.Tie as tie

@@ -1,6 +1,6 @@
 -- `layout::blocks::put_head` meets its contract.
 use Rattle.writing.specs.declared.parts.Part.the-variants as part
-use Rattle.layout.specs.Runs.{partsRun}
+use Rattle.writing_instructions.specs.Runs.{partsRun}
 use Rattle.rules.specs.Records.{recordAt}
 use Prim.Native.Nat.{_+_, _-_}
 use mathlib.Core.Path.{ap}

@@ -1,0 +1,2 @@
+pub mod Impostors
+pub mod Outcomes

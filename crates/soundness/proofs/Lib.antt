@@ -1,0 +1,2 @@
+pub mod FittingCases
+pub mod StandingCases

@@ -1,0 +1,5 @@
+pub mod Standing
+pub mod Ending
+pub mod Holding
+pub mod Fitting
+pub mod Soundness

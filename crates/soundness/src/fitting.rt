@@ -1,0 +1,104 @@
+// Refusal 7, whether edges fit: as many arguments as the target has parameters, and each value of its parameter's size.
+ghost use mathlib.Core.Path.{_≡_};
+ghost use mathlib.Core.Bool.{true};
+ghost use Prim.Native.Nat.{_+_, _<_, _≤_};
+ghost use Rattle.rules.specs.Records.{recordAt, recordCount, records};
+ghost use Rattle.rules.specs.File.{ordered, functionIn};
+ghost use Rattle.rules.specs.Graph.{blockAt};
+ghost use Rattle.rules.specs.Refusals.{fit};
+ghost use Rattle.records.specs.Places.{rest};
+ghost use Rattle.records.specs.Parts.{argument};
+ghost use Rattle.soundness.specs.Fitting.{argumentsFirst, parametersFirst, argumentFits, edgeFits, fitting};
+use checks::counts::one_if_same;
+use records::kind_of;
+use records::record_at;
+use records::values::size_of;
+use records::values::words_from;
+use records::words_of;
+use rules::RECORD_BYTES;
+use rules::Words;
+
+// Whether an edge argument fits a parameter.
+fn argument_fits(s: &[u8], a: Words, p: Words) -> bool
+    requires { ⌜ ordered 0 (records (now s)) ≡ true ⌝ }
+    ensures { λ r. ⌜ r ≡ argumentFits (functionIn (now (s .entry))) (argument a) (p .second) ⌝ }
+{
+    if a.second != 0 {
+        return true;
+    }
+    size_of(s, a.third) == size_of(s, p.second)
+}
+
+// Whether the edge arguments from place at on fit the parameters from place to on.
+fn arguments_fit(s: &[u8], at: usize, to: usize) -> bool
+    requires { ⌜ (ordered 0 (records (now s)) ≡ true) × (at ≤ recordCount (now s)) × (to ≤ recordCount (now s)) ⌝ }
+    ensures { λ r. ⌜ r ≡ fit (functionIn (now (s .entry))) (argumentsFirst (rest (now (s .entry)) at)) (parametersFirst (rest (now (s .entry)) to)) ⌝ }
+{
+    let n = s.len() / RECORD_BYTES;
+    let mut i = at;
+    let mut p = to;
+    while i < n {
+        let a = words_from(s, i);
+        let b = words_from(s, p);
+        if a.kind != 8 {
+            return b.kind != 3;
+        }
+        if b.kind != 3 {
+            return false;
+        }
+        if !argument_fits(s, a, b) {
+            return false;
+        }
+        i += 1;
+        p += 1;
+    }
+    let b = words_from(s, p);
+    b.kind != 3
+}
+
+// The place behind the record that opens block b, where its parameters start; the end of a file that has no such block.
+fn behind_block(s: &[u8], b: u32) -> usize
+    requires { ⌜ ordered 0 (records (now s)) ≡ true ⌝ }
+    ensures { λ r. ⌜ (r ≤ recordCount (now (s .entry))) × (parametersFirst (rest (now (s .entry)) r) ≡ blockAt (functionIn (now (s .entry))) b .parameters) ⌝ }
+{
+    let n = s.len() / RECORD_BYTES;
+    let mut left = b as usize;
+    let mut i: usize = 0;
+    while i < n {
+        let here = one_if_same(2, kind_of(record_at(s, i)));
+        if left < here {
+            return i + 1;
+        }
+        left -= here;
+        i += 1;
+    }
+    n
+}
+
+// Whether the record at place i, if it is an edge, fits its target.
+fn edge_fits(s: &[u8], i: usize) -> bool
+    requires { ⌜ (ordered 0 (records (now s)) ≡ true) × (i < recordCount (now s)) ⌝ }
+    ensures { λ r. ⌜ r ≡ edgeFits (functionIn (now (s .entry))) (recordAt (now (s .entry)) i) (rest (now (s .entry)) (i + 1)) ⌝ }
+{
+    let w = words_of(record_at(s, i));
+    if w.kind != 7 {
+        return true;
+    }
+    arguments_fit(s, i + 1, behind_block(s, w.second))
+}
+
+// Whether every edge of a file in order fits its target.
+pub fn edges_fit(s: &[u8]) -> bool
+    requires { ⌜ ordered 0 (records (now s)) ≡ true ⌝ }
+    ensures { λ r. ⌜ r ≡ fitting (functionIn (now (s .entry))) (records (now (s .entry))) ⌝ }
+{
+    let n = s.len() / RECORD_BYTES;
+    let mut i: usize = 0;
+    while i < n {
+        if !edge_fits(s, i) {
+            return false;
+        }
+        i += 1;
+    }
+    true
+}

@@ -1,0 +1,69 @@
+// Refusal 7, but for whether edges fit: blocks that end once, and what an instruction has by its flags.
+ghost use mathlib.Core.Path.{_≡_};
+ghost use Rattle.rules.specs.Records.{records};
+ghost use Rattle.soundness.specs.Standing.{safepointFlags, mayStand, flagsBehind, standing};
+use records::record_at;
+use records::words_of;
+use rules::RECORD_BYTES;
+use rules::Words;
+
+// Whether the flags are 3.
+fn is_safepoint_terminator(flags: u32) -> bool
+    ensures { λ r. ⌜ r ≡ safepointFlags flags ⌝ }
+{
+    if flags % 2 == 1 {
+        return 2 <= flags;
+    }
+    false
+}
+
+// Whether a record may stand where the last instruction in front of it has these flags, 2 at the start of a file and 0 at
+// the start of a block.
+fn may_stand(flags: u32, w: Words) -> bool
+    ensures { λ r. ⌜ r ≡ mayStand flags w ⌝ }
+{
+    let k = w.kind;
+    match k {
+        2 => 2 <= flags,
+        4 => flags < 2,
+        5 => flags < 2,
+        7 => if flags < 2 { false } else { w.second != 0 },
+        8 => if w.second == 0 {
+            true
+        } else {
+            is_safepoint_terminator(flags)
+        },
+        9 => is_safepoint_terminator(flags),
+        _ => true,
+    }
+}
+
+// The flags of the last instruction in front of what stands behind a record.
+fn flags_behind(flags: u32, w: Words) -> u32
+    ensures { λ r. ⌜ r ≡ flagsBehind flags w ⌝ }
+{
+    let k = w.kind;
+    match k {
+        2 => 0,
+        4 => w.second,
+        _ => flags,
+    }
+}
+
+// Whether every record may stand where it does, and a terminator ends the file.
+pub fn all_stand(s: &[u8]) -> bool
+    ensures { λ r. ⌜ r ≡ standing 2 (records (now (s .entry))) ⌝ }
+{
+    let n = s.len() / RECORD_BYTES;
+    let mut flags: u32 = 2;
+    let mut i: usize = 0;
+    while i < n {
+        let w = words_of(record_at(s, i));
+        if !may_stand(flags, w) {
+            return false;
+        }
+        flags = flags_behind(flags, w);
+        i += 1;
+    }
+    2 <= flags
+}

@@ -1,0 +1,4 @@
+pub mod Zips
+pub mod ByPlace
+pub mod Edges
+pub mod Instructions

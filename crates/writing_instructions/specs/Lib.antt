@@ -1,0 +1,4 @@
+pub mod Entries
+pub mod Runs
+pub mod Remade
+pub mod Instruction
