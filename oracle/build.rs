@@ -1,4 +1,4 @@
-//! Finds the source module and lets the crate compile it where it stands; with the feature `library` links the archive.
+//! Finds the source module and lets the crate compile it where it stands.
 //!
 //! Nothing is copied: the file made here holds one `mod` line whose path is that of the module itself.
 
@@ -8,14 +8,8 @@ use std::{env, fs};
 const VARIABLE: &str = "THRESHSKIFF_SOURCE";
 const BESIDE_THE_REPOSITORY: &str = "shared/docs/src/src/frontend/safepoints.rs";
 
-/// Where `rt staticlib` leaves the archive, from this package's folder.
-const ARCHIVES: &str = "../target/staticlib";
-
 fn main() {
     println!("cargo::rerun-if-changed=build.rs");
-    if env::var_os("CARGO_FEATURE_LIBRARY").is_some() {
-        link_library();
-    }
     println!("cargo::rerun-if-env-changed={VARIABLE}");
     println!("cargo::rustc-check-cfg=cfg(source_module)");
     match source_module() {
@@ -31,14 +25,6 @@ fn main() {
              comparing with the source module will be skipped"
         ),
     }
-}
-
-fn link_library() {
-    let package = env::var("CARGO_MANIFEST_DIR").expect("cargo sets CARGO_MANIFEST_DIR");
-    let folder = Path::new(&package).join(ARCHIVES);
-    println!("cargo::rerun-if-changed={}", folder.join("libthreshskiff.a").display());
-    println!("cargo::rustc-link-search=native={}", folder.display());
-    println!("cargo::rustc-link-lib=static=threshskiff");
 }
 
 /// The file named by the variable; where that is not set, the one in the folder `shared` beside the repository or above it.

@@ -9,6 +9,7 @@ pub mod compare;
 pub mod decision;
 pub mod fixed;
 pub mod generate;
+pub mod guarded;
 #[cfg(feature = "library")]
 pub mod library;
 pub mod program;

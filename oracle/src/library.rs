@@ -1,59 +1,16 @@
-//! The library written in Rattle, called through its static archive. Only with the feature `library`.
+//! The library written in Rattle, through its Rust bindings. Only with the feature `library`.
 
+use crate::generate::Random;
 use crate::services::{Buffer, ListAnswer, LivenessAnswer, Part, RewriteAnswer, Services};
-
-/// The functions of the archive. A slice is passed as its address and its length.
-mod archive {
-    unsafe extern "C" {
-        pub fn threshskiff_check(file: *const u8, length: usize) -> u32;
-        pub fn threshskiff_liveness(
-            file: *const u8,
-            length: usize,
-            live_in: *mut u64,
-            live_in_words: usize,
-            live_out: *mut u64,
-            live_out_words: usize,
-            visits: &mut u32,
-            pushes: &mut u32,
-        ) -> u32;
-        pub fn threshskiff_list(
-            file: *const u8,
-            length: usize,
-            instruction: u32,
-            numbers: *mut u32,
-            numbers_length: usize,
-            count: &mut u32,
-        ) -> u32;
-        pub fn threshskiff_rewrite(
-            file: *const u8,
-            length: usize,
-            pointer_size: u32,
-            output: *mut u8,
-            output_length: usize,
-            records: &mut u32,
-            slots: &mut u32,
-            landings: &mut u32,
-            visits: &mut u32,
-            pushes: &mut u32,
-            unchanged: &mut u32,
-        ) -> u32;
-        pub fn threshskiff_final(
-            refusal: u32,
-            records: u32,
-            unchanged: u32,
-            input: *const u8,
-            input_length: usize,
-            output: *const u8,
-            output_length: usize,
-        ) -> usize;
-    }
-}
+use threshskiff::{Refusal, RewritingAnswer, raw};
 
 /// The number of the lowest refusal of 2 to 8 that applies to a file, 0 where none does.
 pub fn check(file: &[u8]) -> u32 {
-    // SAFETY: the address and the length are those of a slice that lives through the call, and the function is proved to
-    // read nothing else.
-    unsafe { archive::threshskiff_check(file.as_ptr(), file.len()) }
+    number(threshskiff::check(file))
+}
+
+fn number(refusal: Option<Refusal>) -> u32 {
+    refusal.map_or(0, Refusal::number)
 }
 
 /// The services as the library gives them.
@@ -61,81 +18,74 @@ pub struct Library;
 
 impl Services for Library {
     fn liveness(&mut self, file: &[u8], live_in: &mut [u64], live_out: &mut [u64]) -> LivenessAnswer {
-        let (mut visits, mut pushes) = (u32::MAX, u32::MAX);
-        // SAFETY: as above; the two tables are lent for the call alone and do not overlap.
-        let refusal = unsafe {
-            archive::threshskiff_liveness(
-                file.as_ptr(),
-                file.len(),
-                live_in.as_mut_ptr(),
-                live_in.len(),
-                live_out.as_mut_ptr(),
-                live_out.len(),
-                &mut visits,
-                &mut pushes,
-            )
-        };
-        LivenessAnswer { refusal, visits: visits.into(), pushes: pushes.into() }
+        let answer = threshskiff::liveness(file, live_in, live_out);
+        LivenessAnswer { refusal: number(answer.refusal), visits: answer.visits.into(), pushes: answer.pushes.into() }
     }
 
     fn list(&mut self, file: &[u8], instruction: u32, list: &mut [u32]) -> ListAnswer {
-        let mut count = u32::MAX;
-        // SAFETY: as above.
-        let refusal = unsafe {
-            archive::threshskiff_list(file.as_ptr(), file.len(), instruction, list.as_mut_ptr(), list.len(), &mut count)
-        };
-        ListAnswer { refusal, count: count.into() }
+        let answer = threshskiff::list(file, instruction, list);
+        ListAnswer { refusal: number(answer.refusal), count: answer.count.into() }
     }
 
     fn rewrite(&mut self, file: &[u8], pointer_size: u32, output: &mut [u8]) -> RewriteAnswer {
-        let [mut records, mut slots, mut landings, mut visits, mut pushes, mut unchanged] = [u32::MAX; 6];
-        // SAFETY: as above.
-        let refusal = unsafe {
-            archive::threshskiff_rewrite(
-                file.as_ptr(),
-                file.len(),
-                pointer_size,
-                output.as_mut_ptr(),
-                output.len(),
-                &mut records,
-                &mut slots,
-                &mut landings,
-                &mut visits,
-                &mut pushes,
-                &mut unchanged,
-            )
-        };
-        assert!(unchanged < 2, "`unchanged` is 0 or 1");
+        let answer = threshskiff::rewrite(file, pointer_size, output);
         RewriteAnswer {
-            refusal,
-            records: records.into(),
-            slots: slots.into(),
-            landings: landings.into(),
-            visits: visits.into(),
-            pushes: pushes.into(),
-            unchanged: unchanged == 1,
+            refusal: number(answer.refusal),
+            records: answer.records.into(),
+            slots: answer.slots.into(),
+            landings: answer.landings.into(),
+            visits: answer.visits.into(),
+            pushes: answer.pushes.into(),
+            unchanged: answer.unchanged,
         }
     }
 
     fn final_records(&mut self, answer: &RewriteAnswer, input: &[u8], output: &[u8]) -> Part {
-        // An answer of the library counts records in 32 bits; a count beyond them is longer than any buffer here, as the
-        // largest of them is.
-        let records = u32::try_from(answer.records).unwrap_or(u32::MAX);
-        // SAFETY: as above.
-        let length = unsafe {
-            archive::threshskiff_final(
-                answer.refusal,
-                records,
-                answer.unchanged.into(),
-                input.as_ptr(),
-                input.len(),
-                output.as_ptr(),
-                output.len(),
-            )
+        let answer = RewritingAnswer {
+            refusal: Refusal::numbered(answer.refusal),
+            records: narrow(answer.records),
+            slots: narrow(answer.slots),
+            landings: narrow(answer.landings),
+            visits: narrow(answer.visits),
+            pushes: narrow(answer.pushes),
+            unchanged: answer.unchanged,
         };
-        match length {
-            0 => Part::EMPTY,
-            _ => Part { of: if answer.unchanged { Buffer::Input } else { Buffer::Output }, length: length as u64 },
+        let part = threshskiff::final_part(&answer, input, output);
+        assert_eq!(part.offset, 0, "the final records stand at the front of their buffer");
+        let of = match part.of {
+            threshskiff::Buffer::Input => Buffer::Input,
+            threshskiff::Buffer::Output => Buffer::Output,
+        };
+        if part.length == 0 { Part::EMPTY } else { Part { of, length: part.length as u64 } }
+    }
+}
+
+/// An answer of the library counts in 32 bits; a count of records beyond them is longer than any buffer here, as the largest
+/// of them is.
+fn narrow(count: u64) -> u32 {
+    u32::try_from(count).unwrap_or(u32::MAX)
+}
+
+/// The final part of numbers that no answer has, asked `times` times: any refusal but 0 refuses, and any `unchanged` but 0 chooses
+/// the input.
+pub fn any_numbers(seed: u64, times: u64) -> Result<(), String> {
+    for number in 0..times {
+        let random = &mut Random::new(seed, number);
+        let lengths = [0, 1, 15, 16, 17, 32, 48];
+        let (input, output) = (vec![1; random.pick(&lengths)], vec![2; random.pick(&lengths)]);
+        let (refusal, unchanged) = (random.pick(&[0, 0, 0, 12, 256, 1 << 31]), random.pick(&[0, 1, 2, 256, u32::MAX]));
+        let records = random.pick(&[0, 1, 1, 2, 3, 1 << 28, u32::MAX]);
+        let answer = raw::Rewriting { refusal, records, unchanged, slots: 5, landings: 6, visits: 7, pushes: 8 };
+        // SAFETY: the addresses and lengths are those of slices, which are read for the call alone.
+        let said =
+            unsafe { raw::threshskiff_final(answer, input.as_ptr(), input.len(), output.as_ptr(), output.len()) };
+        let chosen = if unchanged == 0 { output.len() } else { input.len() };
+        let whole = records as usize * threshskiff::RECORD_BYTES;
+        let length = if refusal == 0 && whole <= chosen { whole } else { 0 };
+        let decided = raw::Final { of_output: (unchanged == 0).into(), offset: 0, length };
+        if said != decided {
+            return Err(format!("final part of {answer:?}: decided {decided:?}, said {said:?}"));
         }
     }
+    Ok(())
 }

@@ -1,4 +1,4 @@
-//! The oracle's commands: compare, sheets, fixed, runs, library, program.
+//! The oracle's commands: compare, sheets, fixed, runs, library, guarded, program.
 
 use oracle::compare::{Met, against_module, batch};
 use oracle::decision::Decision;
@@ -20,6 +20,8 @@ oracle runs [--files N] [--seed S]      the two runs of demand 3 on N dominated 
 oracle library [--files N] [--seed S]   the library written in Rattle: replays the fixed list, compares its whole answers with
                                         the plain decision's on N generated files, and runs N dominated files beside
                                         what it makes of them (feature `library`)
+oracle guarded [--files N] [--seed S]   the same services between guard pages, with all lent lengths around each boundary, on N
+                                        generated files (feature `library`)
 oracle program PATH [--files N] [--seed S]   the program at PATH: the sheets, the boundaries, the fixed list's files and N
                                         generated ones on its standard input, with a small stack";
 
@@ -38,6 +40,8 @@ fn main() -> ExitCode {
         ["runs", options @ ..] => two_runs(&mut Decision::default(), options),
         #[cfg(feature = "library")]
         ["library", options @ ..] => library(options),
+        #[cfg(feature = "library")]
+        ["guarded", options @ ..] => guarded(options),
         ["program", path, options @ ..] => program(path, options),
         _ => Err(USAGE.to_string()),
     };
@@ -111,7 +115,7 @@ fn two_runs(party: &mut dyn Services, options: &[&str]) -> Result<(), String> {
 
 #[cfg(feature = "library")]
 fn library(options: &[&str]) -> Result<(), String> {
-    use oracle::compare::{refusals_batch, services_batch};
+    use oracle::compare::{refusals_batch, services_batch, whole_answers};
     use oracle::fixed::replay_refusals;
     use oracle::library::{Library, check};
     let path = list_path()?;
@@ -122,19 +126,41 @@ fn library(options: &[&str]) -> Result<(), String> {
     let (files, seed) = files_and_seed(options)?;
     let start = Instant::now();
     let met = refusals_batch(check, seed, files);
-    for ((family, refusal), count) in &met.counts {
-        let said = if *refusal == 0 { "accepted".to_string() } else { format!("refused {refusal}") };
-        println!("{:12} {count:>8} {said}", format!("{family:?}"));
-    }
+    print!("{met}");
     let mut differences = met.differences;
-    differences.extend(services_batch(&mut Library, seed, files));
+    differences.extend(services_batch(whole_answers, &mut Library, seed, files));
     let seconds = start.elapsed().as_secs_f64();
-    println!("the library's checks and four services on {files} files of seed {seed}, {seconds:.1} s with the decision's");
+    println!(
+        "the library's checks and four services on {files} files of seed {seed}, {seconds:.1} s with the decision's"
+    );
     differences.iter().take(20).for_each(|difference| println!("{difference}"));
     match differences.len() {
         0 => two_runs(&mut Library, options),
         count => Err(format!("{count} differences")),
     }
+}
+
+/// The library's services, every buffer between guard pages.
+#[cfg(feature = "library")]
+fn guarded(options: &[&str]) -> Result<(), String> {
+    use oracle::compare::{every_length, refusals_batch, services_batch};
+    use oracle::guarded::{Guarded, shown};
+    use oracle::library::{Library, any_numbers, check};
+    let (files, seed) = files_and_seed(options)?;
+    let start = Instant::now();
+    let met = refusals_batch(|file| shown(file, check), seed, files);
+    print!("{met}");
+    let mut differences = met.differences;
+    differences.extend(services_batch(every_length, &mut Guarded::new(Library), seed, files));
+    differences.extend(any_numbers(seed, files).err());
+    let seconds = start.elapsed().as_secs_f64();
+    println!("the library between guard pages on {files} files of seed {seed}, {seconds:.1} s with the decision's");
+    differences.iter().take(20).for_each(|difference| println!("{difference}"));
+    match differences.len() {
+        0 => println!("no answer and no buffer differs, and nothing outside a buffer was touched"),
+        count => return Err(format!("{count} differences")),
+    }
+    Ok(())
 }
 
 /// The program from outside.

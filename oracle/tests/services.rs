@@ -1,6 +1,6 @@
 //! The decision's services to the last word of each buffer, the program, and parties that answer wrongly.
 
-use oracle::compare::services_batch;
+use oracle::compare::{services_batch, whole_answers};
 use oracle::decision::{Decision, program};
 use oracle::generate::{Random, limits};
 use oracle::record::{bytes, parse};
@@ -150,7 +150,9 @@ impl Services for Impostor {
 
 #[test]
 fn impostors_are_found() {
-    let found = |fault, files| services_batch(&mut Impostor { decision: Decision::default(), fault }, 4, files).len();
+    let found = |fault, files| {
+        services_batch(whole_answers, &mut Impostor { decision: Decision::default(), fault }, 4, files).len()
+    };
     assert_eq!(found(Fault::None, 1500), 0);
     for fault in [
         Fault::RefuseEverything,

@@ -1,11 +1,10 @@
-// The services under C names, for the static library. An answer is plain numbers.
+// The services under C names, for the static library. An answer is a struct of plain numbers in C's layout; `include/threshskiff.h`
+// has the same for C, and what each function promises in words.
 ghost use mathlib.Core.Path.{_≡_};
 ghost use lib.ListN.{length};
-ghost use Rattle.rules.specs.Refusals.{refusalNumber, firstOf, fileRefusals};
 ghost use Rattle.rules.specs.Records.{bit};
-ghost use Rattle.rules.specs.Services.{livenessAnswer, livenessIns, livenessOuts, listAnswer, listWords};
-ghost use Rattle.rules.specs.Services.{rewritingAnswer, rewritingOutput, finalRecords};
-ghost use Rattle.threshskiff.specs.Numbers.{verdictOf, answerOf};
+ghost use Rattle.threshskiff.specs.Numbers.{verdictOf};
+ghost use Rattle.threshskiff.specs.Outcomes.{CheckAllows, LivenessAllows, ListAllows, RewritingAllows, FinalAllows};
 use acceptance::verdict::refusal_number;
 use rules::RewritingAnswer;
 use rules::Verdict;
@@ -15,52 +14,83 @@ use services::list::list;
 use services::liveness::liveness;
 use services::rewrite::rewrite;
 
+// What liveness answers: the number of the refusal, 0 where there is none, and two counts.
+#[repr(C)]
+pub struct ThreshskiffLiveness {
+    pub refusal: u32,
+    pub visits: u32,
+    pub pushes: u32,
+}
+
+// What the list of one safepoint answers.
+#[repr(C)]
+pub struct ThreshskiffList {
+    pub refusal: u32,
+    pub count: u32,
+}
+
+// What rewriting answers; `unchanged` is 1 or 0.
+#[repr(C)]
+pub struct ThreshskiffRewriting {
+    pub refusal: u32,
+    pub records: u32,
+    pub slots: u32,
+    pub landings: u32,
+    pub visits: u32,
+    pub pushes: u32,
+    pub unchanged: u32,
+}
+
+// Where the final records are: `length` bytes from `offset` of the output, where `of_output` is 1, or of the input, where it is 0.
+#[repr(C)]
+pub struct ThreshskiffFinal {
+    pub of_output: u32,
+    pub offset: usize,
+    pub length: usize,
+}
+
 // The number of the lowest refusal of 2 to 8 that applies to a file, 0 where none does.
 #[no_mangle]
 pub extern "C" fn threshskiff_check(file: &[u8]) -> u32
-    ensures { λ r. ⌜ r ≡ refusalNumber (firstOf (fileRefusals (now (file .entry)))) ⌝ }
+    ensures { λ r. ⌜ CheckAllows (now (file .entry)) r ⌝ }
 {
-    refusal_number(check_file(file))
+    let verdict = check_file(file);
+    refusal_number(verdict)
 }
 
-// Liveness. Answers the number of the refusal, 0 where there is none; visits and pushes go where they are asked for.
+// Liveness: both live tables, visits and pushes.
 #[no_mangle]
 pub extern "C" fn threshskiff_liveness(
     file: &[u8],
     live_in: &mut [u64],
     live_out: &mut [u64],
-    visits: &mut u32,
-    pushes: &mut u32,
-) -> u32
-    ensures { λ r. ⌜ r ≡ refusalNumber (livenessAnswer (now (file .entry)) (length (now («live_in» .entry))) (length (now («live_out» .entry))) .verdict) ⌝ }
-    ensures { λ _. ⌜ now (visits .exit) ≡ livenessAnswer (now (file .entry)) (length (now («live_in» .entry))) (length (now («live_out» .entry))) .visits ⌝ }
-    ensures { λ _. ⌜ now (pushes .exit) ≡ livenessAnswer (now (file .entry)) (length (now («live_in» .entry))) (length (now («live_out» .entry))) .pushes ⌝ }
-    ensures { λ _. ⌜ now («live_in» .exit) ≡ livenessIns (now (file .entry)) (length (now («live_in» .entry))) (length (now («live_out» .entry))) ⌝ }
-    ensures { λ _. ⌜ now («live_out» .exit) ≡ livenessOuts (now (file .entry)) (length (now («live_in» .entry))) (length (now («live_out» .entry))) ⌝ }
+) -> ThreshskiffLiveness
+    ensures { λ r. ⌜ LivenessAllows (now (file .entry)) (length (now («live_in» .entry))) (length (now («live_out» .entry))) r (now («live_in» .exit)) (now («live_out» .exit)) ⌝ }
 {
-    let answer = liveness(file, live_in, live_out);
-    let verdict = answer.verdict;
-    *visits = answer.visits;
-    *pushes = answer.pushes;
-    refusal_number(verdict)
+    let live = liveness(file, live_in, live_out);
+    let verdict = live.verdict;
+    ThreshskiffLiveness {
+        refusal: refusal_number(verdict),
+        visits: live.visits,
+        pushes: live.pushes,
+    }
 }
 
-// The list of one safepoint. Answers the number of the refusal, 0 where there is none; the count goes where it is asked for.
+// The list of one safepoint, ascending, and its count.
 #[no_mangle]
 pub extern "C" fn threshskiff_list(
     file: &[u8],
     instruction: u32,
     numbers: &mut [u32],
-    count: &mut u32,
-) -> u32
-    ensures { λ r. ⌜ r ≡ refusalNumber (listAnswer (now (file .entry)) instruction (length (now (numbers .entry))) .verdict) ⌝ }
-    ensures { λ _. ⌜ now (count .exit) ≡ listAnswer (now (file .entry)) instruction (length (now (numbers .entry))) .count ⌝ }
-    ensures { λ _. ⌜ now (numbers .exit) ≡ listWords (now (file .entry)) instruction (length (now (numbers .entry))) ⌝ }
+) -> ThreshskiffList
+    ensures { λ r. ⌜ ListAllows (now (file .entry)) instruction (length (now (numbers .entry))) r (now (numbers .exit)) ⌝ }
 {
-    let answer = list(file, instruction, numbers);
-    let verdict = answer.verdict;
-    *count = answer.count;
-    refusal_number(verdict)
+    let listed = list(file, instruction, numbers);
+    let verdict = listed.verdict;
+    ThreshskiffList {
+        refusal: refusal_number(verdict),
+        count: listed.count,
+    }
 }
 
 // 1 for true, 0 for false.
@@ -73,38 +103,26 @@ fn one_if(b: bool) -> u32
     0
 }
 
-// Rewriting. Answers the number of the refusal, 0 where there is none; the counts go where they are asked for, and 1 for
-// "unchanged", 0 for not.
+// Rewriting: the rewritten records, and what they count.
 #[no_mangle]
 pub extern "C" fn threshskiff_rewrite(
     file: &[u8],
     pointer_size: u32,
     output: &mut [u8],
-    records: &mut u32,
-    slots: &mut u32,
-    landings: &mut u32,
-    visits: &mut u32,
-    pushes: &mut u32,
-    unchanged: &mut u32,
-) -> u32
-    ensures { λ r. ⌜ r ≡ refusalNumber (rewritingAnswer (now (file .entry)) «pointer_size» (length (now (output .entry))) .verdict) ⌝ }
-    ensures { λ _. ⌜ now (records .exit) ≡ rewritingAnswer (now (file .entry)) «pointer_size» (length (now (output .entry))) .records ⌝ }
-    ensures { λ _. ⌜ now (slots .exit) ≡ rewritingAnswer (now (file .entry)) «pointer_size» (length (now (output .entry))) .slots ⌝ }
-    ensures { λ _. ⌜ now (landings .exit) ≡ rewritingAnswer (now (file .entry)) «pointer_size» (length (now (output .entry))) .landings ⌝ }
-    ensures { λ _. ⌜ now (visits .exit) ≡ rewritingAnswer (now (file .entry)) «pointer_size» (length (now (output .entry))) .visits ⌝ }
-    ensures { λ _. ⌜ now (pushes .exit) ≡ rewritingAnswer (now (file .entry)) «pointer_size» (length (now (output .entry))) .pushes ⌝ }
-    ensures { λ _. ⌜ now (unchanged .exit) ≡ bit (rewritingAnswer (now (file .entry)) «pointer_size» (length (now (output .entry))) .unchanged) ⌝ }
-    ensures { λ _. ⌜ now (output .exit) ≡ rewritingOutput (now (file .entry)) «pointer_size» (length (now (output .entry))) ⌝ }
+) -> ThreshskiffRewriting
+    ensures { λ r. ⌜ RewritingAllows (now (file .entry)) «pointer_size» (length (now (output .entry))) r (now (output .exit)) ⌝ }
 {
-    let answer = rewrite(file, pointer_size, output);
-    let verdict = answer.verdict;
-    *records = answer.records;
-    *slots = answer.slots;
-    *landings = answer.landings;
-    *visits = answer.visits;
-    *pushes = answer.pushes;
-    *unchanged = one_if(answer.unchanged);
-    refusal_number(verdict)
+    let rewritten = rewrite(file, pointer_size, output);
+    let verdict = rewritten.verdict;
+    ThreshskiffRewriting {
+        refusal: refusal_number(verdict),
+        records: rewritten.records,
+        slots: rewritten.slots,
+        landings: rewritten.landings,
+        visits: rewritten.visits,
+        pushes: rewritten.pushes,
+        unchanged: one_if(rewritten.unchanged),
+    }
 }
 
 // The verdict of an answer by the number of its refusal: any number but 0 refuses.
@@ -117,27 +135,30 @@ fn verdict_of(refusal: u32) -> Verdict
     Verdict::Malformed
 }
 
-// The final records of an answer, whatever its numbers are: how many bytes they are at the front of the input, where it
-// says "unchanged" by any number but 0, else at the front of the output.
+// Where the final records of an answer are, whatever its numbers are: at the front of the input, where it says "unchanged" by any
+// number but 0, else at the front of the output.
 #[no_mangle]
 pub extern "C" fn threshskiff_final<'a>(
-    refusal: u32,
-    records: u32,
-    unchanged: u32,
+    answer: ThreshskiffRewriting,
     input: &'a [u8],
     output: &'a [u8],
-) -> usize
-    ensures { λ r. ⌜ r ≡ length (finalRecords (answerOf refusal records unchanged) (now (input .entry)) (now (output .entry))) ⌝ }
+) -> ThreshskiffFinal
+    ensures { λ r. ⌜ FinalAllows answer (now (input .entry)) (now (output .entry)) r ⌝ }
 {
-    let answer = RewritingAnswer {
-        verdict: verdict_of(refusal),
-        records,
-        slots: 0,
-        landings: 0,
-        visits: 0,
-        pushes: 0,
+    let unchanged = answer.unchanged;
+    let said = RewritingAnswer {
+        verdict: verdict_of(answer.refusal),
+        records: answer.records,
+        slots: answer.slots,
+        landings: answer.landings,
+        visits: answer.visits,
+        pushes: answer.pushes,
         unchanged: unchanged != 0,
     };
-    let part = final_records(answer, input, output);
-    part.len()
+    let part = final_records(said, input, output);
+    ThreshskiffFinal {
+        of_output: one_if(unchanged == 0),
+        offset: 0,
+        length: part.len(),
+    }
 }

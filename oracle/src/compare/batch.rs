@@ -2,7 +2,6 @@
 
 use super::against_module::{Met, against_module};
 use super::shrink::shrink;
-use super::whole_answers::whole_answers;
 use crate::decision::Decision;
 use crate::generate::{Family, Random, file};
 use crate::record::{records, text};
@@ -112,16 +111,19 @@ pub(super) fn small_file(file: &[u8], told: usize, differs: impl FnMut(&[u8]) ->
     if told < SHRUNK { format!("\n  {}", text(&records(&shrink(file, differs)))) } else { String::new() }
 }
 
+/// A comparison of one file: `whole_answers` or `every_length`.
+pub type Compare = fn(&mut dyn Services, &mut Decision, &[u8], &mut Random) -> Result<(), String>;
+
 /// Compares any party's services with the decision's on the first `files` files of the seed; gives the differences, the
 /// first few with the smallest file found.
-pub fn services_batch(party: &mut dyn Services, seed: u64, files: u64) -> Vec<String> {
+pub fn services_batch(compare: Compare, party: &mut dyn Services, seed: u64, files: u64) -> Vec<String> {
     let mut decision = Decision::default();
     let mut differences = Vec::new();
     for number in 0..files {
         let generated = file(seed, number);
-        let mut compare = |file: &[u8]| whole_answers(party, &mut decision, file, &mut Random::new(!seed, number));
-        if let Err(difference) = compare(&generated.bytes) {
-            let small = small_file(&generated.bytes, differences.len(), |file| compare(file).is_err());
+        let mut differs = |file: &[u8]| compare(party, &mut decision, file, &mut Random::new(!seed, number));
+        if let Err(difference) = differs(&generated.bytes) {
+            let small = small_file(&generated.bytes, differences.len(), |file| differs(file).is_err());
             differences.push(format!("file {number}, {:?}: {difference}{small}", generated.family));
         }
     }

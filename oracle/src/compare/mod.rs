@@ -7,7 +7,7 @@ mod shrink;
 mod whole_answers;
 
 pub use against_module::{Met, against_module};
-pub use batch::{Tally, batch, services_batch};
+pub use batch::{Compare, Tally, batch, services_batch};
 pub use refusals::{Refusals, refusals_batch};
 pub use shrink::shrink;
-pub use whole_answers::whole_answers;
+pub use whole_answers::{every_length, whole_answers};

@@ -4,12 +4,23 @@ use super::batch::small_file;
 use crate::decision::accept;
 use crate::generate::{Family, file};
 use std::collections::BTreeMap;
+use std::fmt::{self, Display};
 
 /// What a batch of files showed: how many of each family were refused by which number, and the differences.
 #[derive(Default)]
 pub struct Refusals {
     pub counts: BTreeMap<(Family, u32), u64>,
     pub differences: Vec<String>,
+}
+
+impl Display for Refusals {
+    fn fmt(&self, out: &mut fmt::Formatter<'_>) -> fmt::Result {
+        for ((family, refusal), count) in &self.counts {
+            let said = if *refusal == 0 { "accepted".to_string() } else { format!("refused {refusal}") };
+            writeln!(out, "{:12} {count:>8} {said}", format!("{family:?}"))?;
+        }
+        Ok(())
+    }
 }
 
 /// Compares what a party says of a file, as a refusal's number or 0, on the first `files` files of the seed.

@@ -23,6 +23,31 @@ pub fn whole_answers(
     invented_answer(subject, decision, random)
 }
 
+/// The same with every pair of table lengths and more lists and invented answers: some seventy calls a file.
+pub fn every_length(
+    subject: &mut dyn Services,
+    decision: &mut Decision,
+    file: &[u8],
+    random: &mut Random,
+) -> Result<(), String> {
+    let tables = around(TABLE_WORDS, random);
+    for live_in in tables {
+        for live_out in tables {
+            liveness(subject, decision, file, live_in, live_out)?;
+        }
+    }
+    let instructions = (file.len() / RECORD_BYTES) as u32;
+    let any = [0, 1, 2, random.below(8), random.below(instructions + 1), u32::MAX];
+    for instruction in any {
+        list(subject, decision, file, instruction, random)?;
+    }
+    let other = random.pick(&[0, 1, 2, 5, 16, 64, u32::MAX]);
+    for pointer_size in [8, 4, other] {
+        rewrite(subject, decision, file, pointer_size, random)?;
+    }
+    (0..8).try_for_each(|_| invented_answer(subject, decision, random))
+}
+
 /// The two services of liveness.
 fn live_answers(
     subject: &mut dyn Services,

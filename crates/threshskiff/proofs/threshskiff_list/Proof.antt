@@ -1,7 +1,9 @@
 -- `threshskiff::threshskiff_list` meets its contract.
-use Rattle.rules.specs.declared.ListAnswer.{ListAnswer}
-use Rattle.rules.specs.Refusals.{refusalNumber}
+use Prim.Native.Nat.{ℕ}
 use mathlib.Core.Path.{ap, _∙_}
+use Rattle.rules.specs.declared.ListAnswer.{ListAnswer}
+use Rattle.threshskiff.specs.Numbers.{listNumbers}
+use Rattle.threshskiff.specs.declared.ThreshskiffList.{ThreshskiffList}
 use borrow.Author.Needs.{needs}
 use Rattle.threshskiff.proofs.threshskiff_list.Statement.{statement}
 use Rattle.threshskiff.proofs.threshskiff_list.Tie as tie
@@ -18,7 +20,9 @@ same-length c = search needs
 returns : tie.Need-returns
 returns c =
     let said = c .before .before .before .list .ensures in
-    (c .refusal-number .ensures ∙ ap (λ (a : ListAnswer). refusalNumber (a .verdict)) (said .0), (ap (λ (a : ListAnswer). a .count) (said .0), said .1))
+    let a : ListAnswer = c .before .before .before .list .result in
+    let refusing : ℕ → ThreshskiffList = λ n. record { refusal = n; count = a .count } in
+    record { answers = ap refusing (c .refusal-number .ensures) ∙ ap listNumbers (said .0); words = said .1 }
 
 pub threshskiff-list-spec : {M : Type 1} → statement M
 threshskiff-list-spec =

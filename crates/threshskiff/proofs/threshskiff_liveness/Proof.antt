@@ -1,7 +1,9 @@
 -- `threshskiff::threshskiff_liveness` meets its contract.
-use Rattle.rules.specs.declared.LivenessAnswer.{LivenessAnswer}
-use Rattle.rules.specs.Refusals.{refusalNumber}
+use Prim.Native.Nat.{ℕ}
 use mathlib.Core.Path.{ap, _∙_}
+use Rattle.rules.specs.declared.LivenessAnswer.{LivenessAnswer}
+use Rattle.threshskiff.specs.Numbers.{livenessNumbers}
+use Rattle.threshskiff.specs.declared.ThreshskiffLiveness.{ThreshskiffLiveness}
 use borrow.Author.Needs.{needs}
 use Rattle.threshskiff.proofs.threshskiff_liveness.Statement.{statement}
 use Rattle.threshskiff.proofs.threshskiff_liveness.Tie as tie
@@ -20,10 +22,14 @@ same-length-2 c = search needs
 
 returns : tie.Need-returns
 returns c =
-    let said = c .before .before .before .before .before .liveness .ensures in (
-      c .refusal-number .ensures ∙ ap (λ (a : LivenessAnswer). refusalNumber (a .verdict)) (said .0),
-      (ap (λ (a : LivenessAnswer). a .visits) (said .0), (ap (λ (a : LivenessAnswer). a .pushes) (said .0), said .1)),
-    )
+    let said = c .before .before .before .before .before .liveness .ensures in
+    let a : LivenessAnswer = c .before .before .before .before .before .liveness .result in
+    let refusing : ℕ → ThreshskiffLiveness = λ n. record { refusal = n; visits = a .visits; pushes = a .pushes } in
+    record {
+      answers = ap refusing (c .refusal-number .ensures) ∙ ap livenessNumbers (said .0);
+      live-in = said .1 .0;
+      live-out = said .1 .1;
+    }
 
 pub threshskiff-liveness-spec : {M : Type 1} → statement M
 threshskiff-liveness-spec =
