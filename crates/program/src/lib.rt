@@ -8,11 +8,11 @@ ghost use Rattle.program.specs.Program.{lineBytes, programAnswer, progra
 use acceptance::verdict::is_accepted;
 use acceptance::verdict::refusal_number;
 use buffers::clear_bytes;
+use finals::final_records;
+use rewriter::refused;
+use rewriter::rewrite;
 use rules::RewritingAnswer;
 use rules::Verdict;
-use services::finals::final_records;
-use services::rewrite::refused;
-use services::rewrite::rewrite;
 
 // The largest input and the output, in bytes, and the size of a pointer.
 pub const PROGRAM_INPUT: usize = 32768;

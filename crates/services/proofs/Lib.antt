@@ -1,3 +1,2 @@
 pub mod ListAnswers
 pub mod LiveAnswers
-pub mod RewriteAnswers

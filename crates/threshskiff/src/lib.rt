@@ -6,13 +6,13 @@ ghost use Rattle.rules.specs.Records.{bit};
 ghost use Rattle.threshskiff.specs.Numbers.{verdictOf};
 ghost use Rattle.threshskiff.specs.Outcomes.{CheckAllows, LivenessAllows, ListAllows, RewritingAllows, FinalAllows};
 use acceptance::verdict::refusal_number;
+use finals::final_records;
+use rewriter::rewrite;
 use rules::RewritingAnswer;
 use rules::Verdict;
 use services::check::check_file;
-use services::finals::final_records;
 use services::list::list;
 use services::liveness::liveness;
-use services::rewrite::rewrite;
 
 // What liveness answers: the number of the refusal, 0 where there is none, and two counts.
 #[repr(C)]

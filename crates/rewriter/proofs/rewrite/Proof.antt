@@ -1,4 +1,4 @@
--- `services::rewrite::rewrite` meets its contract.
+-- `rewriter::rewrite` meets its contract.
 use mathlib.Core.Path.{sym, ap, _∙_}
 use borrow.Author.Needs.{needs}
 use borrow.Author.Tests.{not-true, not-false}
@@ -6,11 +6,11 @@ use lib.ListN.{length}
 use Rattle.rules.specs.Services.{rewritingAnswer, rewritingOutput}
 use Rattle.acceptance.specs.Stages.{said-no, said-yes}
 use Rattle.acceptance.specs.Survey.{blank-tables}
 use Rattle.services.proofs.ListAnswers.{surveyed-indexed}
 use Rattle.services.proofs.LiveAnswers.{cleared-blank}
-use Rattle.services.proofs.RewriteAnswers.{pointer-refused, rewriting-refused}
-use Rattle.services.proofs.rewrite.rewrite.Statement.{statement}
-use Rattle.services.proofs.rewrite.rewrite.Tie as tie
+use Rattle.rewriter.proofs.RewriteAnswers.{pointer-refused, rewriting-refused}
+use Rattle.rewriter.proofs.rewrite.Statement.{statement}
+use Rattle.rewriter.proofs.rewrite.Tie as tie
 
 clear-bytes-requires : tie.Need-clear-bytes-requires
 clear-bytes-requires c κs = search needs

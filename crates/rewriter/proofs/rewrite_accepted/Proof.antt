@@ -1,4 +1,4 @@
--- `services::rewrite::rewrite_accepted` meets its contract.
+-- `rewriter::rewrite_accepted` meets its contract.
 use Prim.Native.Nat.{ℕ, _*_}
 use mathlib.Core.Path.{ap, _∙_}
 use native.Mathlib.Omega.{arith}
@@ -12,9 +12,9 @@ use Rattle.fixpoint.specs.Finding.{update-here}
 use Rattle.graph.specs.Zeros.{zeros-zeros}
 use Rattle.rows.specs.Rows.{rows}
 use Rattle.rewriting.specs.Tables.{list-tables}
 use Rattle.services.proofs.ListAnswers.{lent-own}
-use Rattle.services.proofs.rewrite.rewrite_accepted.Statement.{statement}
-use Rattle.services.proofs.rewrite.rewrite_accepted.Tie as tie
+use Rattle.rewriter.proofs.rewrite_accepted.Statement.{statement}
+use Rattle.rewriter.proofs.rewrite_accepted.Tie as tie
 
 slice-aggregate-live-tables : tie.Need-slice-aggregate-live-tables
 slice-aggregate-live-tables c = search needs

@@ -1,7 +1,7 @@
 // The final records: a part of the input or a part of the output, by the answer of a rewriting.
 ghost use mathlib.Core.Path.{_≡_};
 ghost use Rattle.rules.specs.Services.{finalRecords};
-ghost use Rattle.services.specs.Finals.{firstRecords};
+ghost use Rattle.finals.specs.Finals.{firstRecords};
 use acceptance::verdict::is_accepted;
 use rules::RECORD_BYTES;
 use rules::RewritingAnswer;

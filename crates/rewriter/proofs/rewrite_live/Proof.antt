@@ -1,13 +1,13 @@
--- `services::rewrite::rewrite_live` meets its contract.
+-- `rewriter::rewrite_live` meets its contract.
 use mathlib.Core.Path.{refl, sym, _∙_}
 use native.Mathlib.Omega.{arith}
 use borrow.Author.Needs.{needs}
 use borrow.Author.Tests.{not-true, not-false}
 use lib.ListN.{length}
 use Rattle.rewriting.specs.Found.{reading, values-counted, values-small, records-small, places-some, unchanged-row, changed-row, outcome-sized, outcome-unchanged}
-use Rattle.services.proofs.RewriteAnswers.{negated-true, negated-false}
-use Rattle.services.proofs.rewrite.rewrite_live.Statement.{statement}
-use Rattle.services.proofs.rewrite.rewrite_live.Tie as tie
+use Rattle.rewriter.proofs.RewriteAnswers.{negated-true, negated-false}
+use Rattle.rewriter.proofs.rewrite_live.Statement.{statement}
+use Rattle.rewriter.proofs.rewrite_live.Tie as tie
 
 shared-slice-read-has-slot-sizes : tie.Need-shared-slice-read-has-slot-sizes
 shared-slice-read-has-slot-sizes c = places-some (c .before .before .before .before .before .before .before .before .before .pre .0)

@@ -1,12 +1,12 @@
--- `services::finals::first_records` meets its contract.
+-- `finals::first_records` meets its contract.
 use Prim.Native.Nat.{_*_}
 use mathlib.Core.Path.{sym}
 use lib.Seq.{length-take-le}
 use borrow.Author.Needs.{needs}
 use Rattle.rules.specs.Limits.{recordBytes}
-use Rattle.services.specs.Finals.{first-there, first-shorter}
-use Rattle.services.proofs.finals.first_records.Statement.{statement}
-use Rattle.services.proofs.finals.first_records.Tie as tie
+use Rattle.finals.specs.Finals.{first-there, first-shorter}
+use Rattle.finals.proofs.first_records.Statement.{statement}
+use Rattle.finals.proofs.first_records.Tie as tie
 
 mul-n : tie.Need-mul-n
 mul-n c = search needs

@@ -1,11 +1,11 @@
--- `services::finals::final_records` meets its contract.
+-- `finals::final_records` meets its contract.
 use mathlib.Core.Path.{sym, ap, _∙_}
 use mathlib.Core.Bool.{Bool, cond}
 use borrow.Author.Needs.{needs}
 use borrow.Author.Tests.{not-true, not-false}
-use Rattle.services.specs.Finals.{firstRecords, final-refused, final-chosen}
-use Rattle.services.proofs.finals.final_records.Statement.{statement}
-use Rattle.services.proofs.finals.final_records.Tie as tie
+use Rattle.finals.specs.Finals.{firstRecords, final-refused, final-chosen}
+use Rattle.finals.proofs.final_records.Statement.{statement}
+use Rattle.finals.proofs.final_records.Tie as tie
 
 is-accepted-requires : tie.Need-is-accepted-requires
 is-accepted-requires c κs = search needs

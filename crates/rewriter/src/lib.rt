@@ -1,4 +1,5 @@
-// Rewriting: the function with its stores, reloads, maps and landings.
+// The service of rewriting: the function with its stores, reloads, maps and landings. It takes any bytes, owns the tables that it needs, and
+// asks nothing of its caller.
 ghost use mathlib.Core.Path.{_≡_};
 ghost use mathlib.Core.Bool.{_||_};
 ghost use lib.Dec.{eqb};
