@@ -1,10 +1,9 @@
 -- What becomes of a row's set when a value is brought in only where it is marked.
 use Prim.Native.Nat.{ℕ, _<_}
-use mathlib.Core.Path.{_≡_, refl, sym, ap, _∙_}
+use mathlib.Core.Path.{_≡_, sym, ap, _∙_}
 use mathlib.Core.Bool.{Bool, true, false}
 use mathlib.Core.List.{List, [], _∷_}
 use lib.ListN.{length}
-use lib.Dec.{T}
 use Rattle.rules.specs.Lists.{keep, update, NumberSet, adding}
 use Rattle.rules.specs.Tree.{Function}
 use Rattle.rules.specs.Graph.{isMarked}

@@ -1,30 +1,29 @@
 -- THE RULE BY BLOCKS. Going back over a block's records gives the rule through it; so from nothing, what it uses; and what
 -- its records define is what it kills. Tables of sets, filled block by block.
-use Prim.Native.Nat.{ℕ, suc, _+_, _<_, _≤_}
+use Prim.Native.Nat.{ℕ, _+_, _<_, _≤_}
 use mathlib.Core.Path.{_≡_, refl, sym, ap, ap₂, _∙_}
 use mathlib.Core.Bool.{Bool, true, false, not, _||_, cond}
 use mathlib.Core.List.{List, [], _∷_, _++_, map}
 use native.Mathlib.Omega.{arith}
 use lib.ListN.{length, List·getD-eq-default}
-use lib.Dec.{T, eqb, ltb, eqb→eq, ltb→lt, nltb→le}
+use lib.Dec.{T, eqb, ltb, ltb→lt, nltb→le}
 use borrow.Author.Tests.{lt-ltb, le-ltb}
-use Rattle.rules.specs.Lists.{all, any, has, update, concatMap, NumberSet, nothing, adding, removing}
+use Rattle.rules.specs.Lists.{all, has, update, concatMap, NumberSet, nothing, removing}
 use Rattle.rules.specs.Tree.{Instruction, Block, Function}
-use Rattle.rules.specs.Records.{encode, kind, records}
-use Rattle.rules.specs.File.{followers, ordered, Section, cut, ofKind, named, instructionOf, opensItem, blockOf, functionIn}
+use Rattle.rules.specs.Records.{kind, records}
+use Rattle.rules.specs.File.{ordered, Section, cut, named, instructionOf, opensItem, functionIn}
 use Rattle.rules.specs.Graph.{blockAt, instructionsOf}
 use Rattle.rules.specs.Liveness.{beforeAll, through}
 use Rattle.rules.specs.declared.EdgeArgument.the-variants as passes
 use Rattle.rules.specs.declared.Record.{Record}
 use Rattle.rules.specs.declared.Record.the-variants as record′
-use Rattle.rules.specs.declared.Words.{Words}
 use Rattle.lists.specs.Tests.{test-elim, and-left, and-right, and-intro, differ, neqb→ne}
 use Rattle.lists.specs.Anys.{or-assoc}
 use Rattle.records.specs.Kinds.{Kinds, kinds-append, kinds-weaken, ofKind-stop}
 use Rattle.records.specs.InOrder.{Sections, whole, cut-joins}
-use Rattle.records.specs.Parts.{blockBody, isInstruction, front-parameters, block-instructions, block-instructions-are, block-picked, head-instruction, second}
+use Rattle.records.specs.Parts.{isInstruction, front-parameters, block-instructions, block-instructions-are, block-picked, head-instruction, second}
 use Rattle.fixpoint.specs.Rule.{uses, results, kills}
-use Rattle.fixpoint.specs.Finding.{update-elim, update-here}
+use Rattle.fixpoint.specs.Finding.{update-elim}
 use Rattle.graph.specs.Blocks.{bodyAt, sectionOf, blockAt-by-place, blockAt-parameters, block-body}
 use Rattle.blocksets.specs.Operands.{over-append, liveBefore, back, definedIn}
 use Rattle.blocksets.specs.Instructions.{inInstruction, removing-more, body-kinds, back-sections}

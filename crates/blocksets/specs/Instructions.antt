@@ -7,7 +7,7 @@ use mathlib.Core.List.{List, [], _∷_, _++_, map}
 use lib.Dec.{T, eqb}
 use Rattle.rules.specs.Lists.{all, keep, has, concatMap, NumberSet, adding, removing}
 use Rattle.rules.specs.Tree.{Edge, Instruction, Function}
-use Rattle.rules.specs.Records.{encode, kind}
+use Rattle.rules.specs.Records.{kind}
 use Rattle.rules.specs.File.{followers, follows, Section, ofKind, named, instructionOf, edgesOf}
 use Rattle.rules.specs.Graph.{isMarked, valuesAmong, valuesPassed}
 use Rattle.rules.specs.Liveness.{across, before, beforeAll}
@@ -17,12 +17,11 @@ use Rattle.rules.specs.declared.Record.{Record}
 use Rattle.rules.specs.declared.Record.the-variants as record′
 use Rattle.rules.specs.declared.Words.{Words}
 use Rattle.lists.specs.Tests.{and-left, and-right}
-use Rattle.lists.specs.Anys.{or-assoc}
-use Rattle.records.specs.Kinds.{Kinds, ofKind-none, kind-edgeArgument}
+use Rattle.records.specs.Kinds.{Kinds, ofKind-none}
 use Rattle.records.specs.InOrder.{chain, Sections, whole, keptBy, chain-good}
 use Rattle.records.specs.Parts.{isInstruction, inBody, body-chained, body-allowed, head-instruction, argument, passed-picked}
 use Rattle.blocksets.specs.declared.operands.Operand.the-variants as operand
-use Rattle.blocksets.specs.Operands.{operandOf, liveBefore, over, over-append, back}
+use Rattle.blocksets.specs.Operands.{operandOf, liveBefore, over-append, back}
 
 -- the values that records of kind 8 pass
 abbrev pub passedBy : List Record → List ℕ

@@ -1,7 +1,7 @@
 -- MOVE TO TOP. Document 01's stack keeps entries that no longer count. Here is the process over a stack in which every
 -- entry counts and stands once: pushing moves a block to the top. It gives the same sets, visits and pushes, step by
 -- step, from every state; and its stack never holds more than the reachable blocks.
-use Prim.Native.Nat.{ℕ, zero, suc, _+_, _≤_}
+use Prim.Native.Nat.{ℕ, zero, suc, _+_}
 use native.Mathlib.Omega.{arith}
 use mathlib.Core.Path.{_≡_, refl, sym, ap, _∙_}
 use mathlib.Core.Bool.{Bool, true, false}
@@ -15,12 +15,11 @@ use Rattle.rules.specs.Liveness.{after, bound, process}
 use Rattle.lists.specs.Sets.{Within}
 use Rattle.lists.specs.Members.{_∈_, has→∈}
 use Rattle.walks.specs.Reachable.{reachable-nodup}
-use Rattle.fixpoint.specs.Removal.{moveToTop, nodup-subset-length-le}
-use Rattle.fixpoint.specs.Counting.{counting, counting-nodup, counting-pending, counting-on, counting-all}
+use Rattle.fixpoint.specs.Removal.{moveToTop}
+use Rattle.fixpoint.specs.Counting.{counting, counting-on, counting-all}
 use Rattle.fixpoint.specs.Counting.{counting-none, counting-some}
 use Rattle.fixpoint.specs.Steps.{start-first}
 use Rattle.fixpoint.specs.Resumable.{Resumable}
-use Rattle.fixpoint.specs.Ends.{work, after-ends}
 
 -- THE PROCESS over such a stack
 pub record Compact : Type 0 where
@@ -181,12 +180,6 @@ module _ (f : Function) where
   process-compact =
       compact-after (bound f) (start f) ∙ ap (afterTop f (bound f)) compact-start
 
-  -- ROOM. No stack holds more entries than there are reachable blocks.
-  pub compact-room : (s : State) → Resumable f s → length (compact s .entries) ≤ length (reachable f)
-  compact-room s h =
-      nodup-subset-length-le (compact s .entries) (reachable f) (counting-nodup (s .pending) (s .stack))
-      (λ x m. h .pending-reachable x (counting-pending (s .pending) (s .stack) m))
-
   -- where no entry is left, steps change nothing
   pub afterTop-idle : (k : ℕ) (c : Compact) → c .entries ≡ [] → afterTop f k c ≡ c
   afterTop-idle zero c e = refl
@@ -219,10 +212,3 @@ module _ (f : Function) where
             pending-reachable = λ b t. entries-reachable b (has→∈ (c .entries) t);
             pending-stacked = λ b t. has→∈ (c .entries) t;
           }
-
-      -- and no entry is left after as many steps as there is work.
-      pub afterTop-ends : (k : ℕ) → work f (expand c) ≤ k → afterTop f k c .entries ≡ []
-      afterTop-ends k l =
-          ap (λ (d : Compact). d .entries) (afterTop-after k)
-          ∙ counting-none (after f k (expand c) .pending) (after f k (expand c) .stack)
-          (after-ends f (expand c) expand-resumable k l)

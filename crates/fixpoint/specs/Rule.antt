@@ -63,14 +63,6 @@ beforeAll-split f (i ∷ is) out v =
     ap (λ x. added || (not removed && (passed || x))) (beforeAll-split f is out v)
     ∙ split-step added removed passed (beforeAll f is nothing v) (out v) (results is v)
 
--- What two lists of instructions use: what the first uses, and of what the second uses what the first does not define.
-pub uses-append :
-    (f : Function) (is js : List Instruction) (v : ℕ)
-    → beforeAll f (is ++ js) nothing v
-    ≡ beforeAll f is nothing v || (beforeAll f js nothing v && not (results is v))
-uses-append f is js v =
-    ap (λ (s : NumberSet). s v) (beforeAll-append f is js nothing) ∙ beforeAll-split f is (beforeAll f js nothing) v
-
 -- What they define: what one of them defines.
 pub results-append : (is js : List Instruction) (v : ℕ) → results (is ++ js) v ≡ results is v || results js v
 results-append [] js v = refl
@@ -86,12 +78,6 @@ through-split f b out v =
     let removed = has v (blockAt f b .parameters) in
     ap (λ x. not removed && x) (beforeAll-split f is out v)
     ∙ split-step false removed false (beforeAll f is nothing v) (out v) (results is v)
-
--- A value's answer depends on that value's alone.
-pub through-cong :
-    (f : Function) (b : ℕ) (s t : NumberSet) (v : ℕ) → s v ≡ t v → through f b s v ≡ through f b t v
-through-cong f b s t v e =
-    through-split f b s v ∙ ap (λ o. uses f b v || (o && not (kills f b v))) e ∙ sym (through-split f b t v)
 
 -- Larger sets give larger ones.
 pub through-mono : (f : Function) (b : ℕ) (s t : NumberSet) → Within s t → Within (through f b s) (through f b t)

@@ -14,7 +14,6 @@ use Rattle.fixpoint.specs.Resumable.{start-resumable, after-resumable}
 use Rattle.fixpoint.specs.Ends.{busy-work}
 use Rattle.fixpoint.specs.Answer.{process-ended, visits-work-le, pushes-potential-le}
 use Rattle.fixpoint.specs.MoveToTop.{Compact, compact, startTop, afterTop, compact-after, compact-start}
-use Rattle.fixpoint.specs.MoveToTop.{compact-room}
 use Rattle.fixpoint.specs.MoveToTop.{process-compact, afterTop-idle, afterTop-add}
 
 module _ (f : Function) where
@@ -71,12 +70,6 @@ module _ (f : Function) where
       let m′ : b ∈ compact s .entries = subst (λ (c : Compact). b ∈ c .entries) (sym (turns-after k)) m in
       after-resumable f k (start f) (start-resumable f) .pending-reachable b
       (counting-pending (s .pending) (s .stack) m′)
-
-  -- and so they are no more than the reachable blocks.
-  pub top-room : (k : ℕ) → length (turns k .entries) ≤ length (reachable f)
-  top-room k =
-      subst (λ (c : Compact). length (c .entries) ≤ length (reachable f)) (turns-after k)
-      (compact-room f (after f k (start f)) (after-resumable f k (start f) (start-resumable f)))
 
   -- When the stack is empty, the answer is there: the sets, visits and pushes of document 01's process.
   pub top-final : (k : ℕ) → turns k .entries ≡ [] → turns k ≡ compact (process f)

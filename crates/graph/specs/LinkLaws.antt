@@ -248,13 +248,3 @@ module _ (f : Function) (inFile : T (numbersInFile f)) (first from next : List �
 pub list-none : (from next : List ℕ) (k : ℕ) → listFrom from next k 0 ≡ []
 list-none from next zero = refl
 list-none from next (suc k) = refl
-
-pub list-more :
-    (m : ℕ) (l : Links) → Chained m l → (e : ℕ) → e < l .used
-    → listFrom (l .from) (l .next) (l .used) (suc e) ≡ getD (l .from) e 0 ∷ listFrom (l .from) (l .next) (l .used) (getD (l .next) e 0)
-list-more m l h e k =
-    let fall = h .falls e k in
-    let n : l .used ≡ suc (l .used - 1) = omega arith in
-    ap (λ (j : ℕ). listFrom (l .from) (l .next) j (suc e)) n
-    ∙ ap (λ (xs : List ℕ). getD (l .from) e 0 ∷ xs)
-    (enough (l .from) (l .next) (l .used) (h .falls) (l .used - 1) (l .used) (getD (l .next) e 0) (omega arith) (omega arith) (omega arith))

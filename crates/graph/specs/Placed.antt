@@ -8,13 +8,10 @@ use native.Mathlib.Omega.{arith}
 use lib.ListN.{length, getD, length-append, length-map}
 use lib.Dec.{T, eqb}
 use Rattle.rules.specs.Records.{encode, kind, recordAt, recordCount, records}
-use Rattle.rules.specs.File.{ordered, ofKind, functionIn}
-use Rattle.rules.specs.Refusals.{allInstructions, allEdges}
-use Rattle.rules.specs.Tree.{Edge}
+use Rattle.rules.specs.File.{ofKind}
 use Rattle.rules.specs.declared.Record.{Record}
 use Rattle.rules.specs.declared.Words.{Words}
 use Rattle.lists.specs.Tests.{eqb-same}
-use Rattle.records.specs.Parts.{headWords, instructions-in-order, targets-in-order}
 use Rattle.graph.specs.Between.{between, between-none, between-more, between-all, length-between}
 use Rattle.graph.specs.Sections.{placeIf, places, table-bounds, table-ascends}
 
@@ -74,16 +71,3 @@ module _ (k : ℕ) (s : List ℕ) where
   pub placeTable-less : (j : ℕ) → j < length (placesOf k s) → getD (placeTable k s) j 0 < getD (placeTable k s) (suc j) 0
   unfolding placeTable placesOf
   placeTable-less j l = table-ascends (eqb k) 0 (recordCount s) (records s) length-records j l
-
--- IN A FILE IN ORDER the records of kinds 4 and 7 are its instructions and its edges.
-module _ (s : List ℕ) (h : T (ordered 0 (records s))) where
-  pub length-instruction-places : length (placesOf 4 s) ≡ length (allInstructions (functionIn s))
-  length-instruction-places =
-      length-placesOf 4 s ∙ sym (ap length (instructions-in-order (records s) h)) ∙ length-map (allInstructions (functionIn s)) headWords
-
-  pub length-edge-places : length (placesOf 7 s) ≡ length (allEdges (functionIn s))
-  length-edge-places =
-      length-placesOf 7 s
-      ∙ sym (length-map (ofKind 7 (records s)) (λ (w : Words). w .second))
-      ∙ sym (ap length (targets-in-order (records s) h))
-      ∙ length-map (allEdges (functionIn s)) (λ (e : Edge). e .target)

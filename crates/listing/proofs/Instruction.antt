@@ -1,16 +1,16 @@
 -- One instruction: back to its arguments, the list, and back over the arguments.
-use Prim.Native.Nat.{ℕ, suc, _+_, _-_, _<_, _≤_}
-use mathlib.Core.Path.{_≡_, refl, sym, ap, _∙_}
+use Prim.Native.Nat.{ℕ, _+_, _-_, _≤_}
+use mathlib.Core.Path.{_≡_, sym, ap, _∙_}
 use mathlib.Core.Bool.{cond}
 use mathlib.Core.Option.{Option, none, some}
-use mathlib.Core.List.{List, _++_}
+use mathlib.Core.List.{List}
 use native.Mathlib.Omega.{arith}
 use native.Mathlib.Numerals.{add-one}
 use lib.Dec.{T}
 use Rattle.rules.specs.Lists.{update, NumberSet}
 use Rattle.rules.specs.Tree.{Function, Instruction}
 use Rattle.rules.specs.Records.{recordCount}
-use Rattle.rules.specs.File.{Section, instructionOf, functionIn}
+use Rattle.rules.specs.File.{instructionOf, functionIn}
 use Rattle.rules.specs.Liveness.{across, before}
 use Rattle.rules.specs.declared.Record.{Record}
 use Rattle.records.specs.Parts.{isInstruction}

@@ -1,10 +1,10 @@
 -- What is live across an instruction, by its records: going back over them as far as its arguments.
-use Prim.Native.Nat.{ℕ, zero, suc, _+_, _<_, _≤_}
+use Prim.Native.Nat.{ℕ, zero, suc, _+_, _≤_}
 use mathlib.Core.Path.{_≡_, refl, sym, ap, ap₂, _∙_}
 use mathlib.Core.Bool.{Bool, true, false, not, _||_, cond}
 use mathlib.Core.List.{List, [], _∷_, _++_, map}
 use native.Mathlib.Omega.{arith}
-use lib.Dec.{T, T-not, eqb, eqb→eq}
+use lib.Dec.{T, eqb, eqb→eq}
 use Rattle.rules.specs.Lists.{all, keep, has, NumberSet, adding, removing}
 use Rattle.rules.specs.Tree.{Function}
 use Rattle.rules.specs.Records.{encode, kind, recordAt, recordCount}
@@ -13,13 +13,13 @@ use Rattle.rules.specs.Graph.{isMarked, valuesAmong}
 use Rattle.rules.specs.Liveness.{across}
 use Rattle.rules.specs.declared.Record.{Record}
 use Rattle.rules.specs.declared.Words.{Words}
-use Rattle.lists.specs.Tests.{and-left, and-right, and-intro, or-elim, passes-at, left-out, differ, eq→eqb}
+use Rattle.lists.specs.Tests.{and-left, and-right, and-intro, or-elim, passes-at, left-out}
 use Rattle.records.specs.Kinds.{Kinds, ofKind-none}
 use Rattle.records.specs.InOrder.{chain, keptBy, chain-good}
 use Rattle.records.specs.Parts.{isInstruction, body-chained, argument}
 use Rattle.graph.specs.Between.{between, between-none, between-more}
 use Rattle.blocksets.specs.Operands.{back}
-use Rattle.blocksets.specs.Instructions.{passedBy, inInstruction, beforeBy, back-before, body-kinds, across-by-records}
+use Rattle.blocksets.specs.Instructions.{passedBy, inInstruction, back-before, body-kinds, across-by-records}
 
 -- the section of the instruction at place p whose records end before place end
 abbrev pub sectionAt : List ℕ → ℕ → ℕ → Section

@@ -2,13 +2,13 @@
 use Prim.Native.Nat.{ℕ, zero, suc, _+_, _-_, _<_, _≤_}
 use mathlib.Core.Path.{_≡_, refl, sym, ap, _∙_}
 use mathlib.Core.Bool.{false}
-use mathlib.Core.List.{List, [], _∷_, _++_}
-use mathlib.Core.Option.{Option, none, some}
+use mathlib.Core.List.{List, [], _∷_}
+use mathlib.Core.Option.{none, some}
 use native.Mathlib.Omega.{arith}
 use lib.ListN.{length, getD, length-append}
-use Rattle.rules.specs.Lists.{keep, isNone, concatMap, upFrom, NumberSet, members}
+use Rattle.rules.specs.Lists.{isNone, concatMap, upFrom, NumberSet, members}
 use Rattle.rules.specs.Tree.{Block, Function}
-use Rattle.rules.specs.Graph.{blockAt, instructionsOf}
+use Rattle.rules.specs.Graph.{instructionsOf}
 use Rattle.rules.specs.Liveness.{lists}
 use Rattle.rules.specs.Refusals.{allInstructions}
 use Rattle.fixpoint.specs.Sums.{count-le-length, length-keep}

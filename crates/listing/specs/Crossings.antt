@@ -1,23 +1,17 @@
 -- What is live across each safepoint, as sets: document 01's lists before they are put in order.
-use Prim.Native.Nat.{ℕ, zero, suc, _+_, _<_, _≤_}
-use mathlib.Core.Path.{_≡_, refl, sym, ap, ap₂, subst, _∙_}
-use mathlib.Core.Bool.{Bool, true, false, not, cond}
+use Prim.Native.Nat.{ℕ, zero, suc, _+_}
+use mathlib.Core.Path.{_≡_, refl, sym, ap, ap₂, _∙_}
+use mathlib.Core.Bool.{Bool, true, false, cond}
 use mathlib.Core.Option.{Option, none, some}
 use mathlib.Core.List.{List, [], _∷_, _++_, map}
 use native.Mathlib.Omega.{arith}
-use lib.ListN.{length, getD, length-append, length-map}
-use lib.Dec.{T, eqb, ltb, eqb·zero-suc, eqb·suc-zero, eqb·suc-suc, ltb→lt, nltb→le}
-use Rattle.rules.specs.Lists.{any, keep, isNone, orElse, concatMap, has, update, upFrom, NumberSet, nothing, members}
+use lib.ListN.{length, getD, length-map}
+use lib.Dec.{eqb·zero-suc, eqb·suc-zero, eqb·suc-suc}
+use Rattle.rules.specs.Lists.{orElse, concatMap, has, update, upFrom, NumberSet, nothing}
 use Rattle.rules.specs.Tree.{Instruction, Function}
-use Rattle.rules.specs.Graph.{blockAt, isMarked, instructionsOf, reachable}
-use Rattle.rules.specs.Liveness.{across, before, beforeAll, process, listsAmong, listsOf, lists, isSpilled}
-use Rattle.lists.specs.Tests.{T-ext, or-right, is-true}
-use Rattle.lists.specs.Maps.{map-append, map-concatMap, concatMap-append}
-use Rattle.lists.specs.Members.{_∈_, has→∈, ∈→has, all→∈}
-use Rattle.fixpoint.specs.Finding.{∈-keep, keep-passes, ∈-upFrom}
-use Rattle.fixpoint.specs.Rule.{beforeAll-marked, marked-in-file}
-use Rattle.fixpoint.specs.Least.{live-out-marked}
-use Rattle.fixpoint.specs.Answer.{process-outs-live}
+use Rattle.rules.specs.Graph.{blockAt, instructionsOf, reachable}
+use Rattle.rules.specs.Liveness.{across, beforeAll, process, lists}
+use Rattle.lists.specs.Maps.{concatMap-append}
 
 -- what is live across an instruction if it is a safepoint, from what is live behind it
 abbrev pub crossing : Function → Instruction → NumberSet → Option NumberSet

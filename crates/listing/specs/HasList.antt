@@ -7,15 +7,14 @@ use mathlib.Core.List.{List, [], _∷_, _++_, map}
 use native.Mathlib.Omega.{arith}
 use native.Mathlib.Numerals.{add-one}
 use lib.ListN.{length, getD, List·getD-append}
-use lib.Dec.{eqb}
 use Rattle.rules.specs.Lists.{isNone, concatMap, has, upFrom, NumberSet}
 use Rattle.rules.specs.Tree.{Instruction, Function}
-use Rattle.rules.specs.Records.{encode, isSafepoint, kind, recordAt, recordCount}
-use Rattle.rules.specs.File.{instructionOf, functionIn}
+use Rattle.rules.specs.Records.{encode, isSafepoint, recordAt, recordCount}
+use Rattle.rules.specs.File.{instructionOf}
 use Rattle.rules.specs.Graph.{blockAt, instructionsOf, reachable}
 use Rattle.rules.specs.Liveness.{across, beforeAll, process, lists}
 use Rattle.graph.specs.Sections.{placeIf, sectionsAt}
-use Rattle.listing.specs.Crossings.{crossingsAmong, crossings, allCrossings, crossings-reachable, crossings-unreachable}
+use Rattle.listing.specs.Crossings.{crossingsAmong, crossings, crossings-reachable, crossings-unreachable}
 use Rattle.listing.specs.Stepping.{opens, headsFrom, instructionsFrom, heads-more}
 use Rattle.listing.specs.Listed.{list-none}
 

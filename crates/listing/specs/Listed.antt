@@ -2,12 +2,12 @@
 -- set has its list, and the values on any list are those of any row.
 use Prim.Native.Nat.{ℕ, zero, suc, _+_, _<_, _≤_}
 use mathlib.Core.Path.{_≡_, refl, sym, ap, ap₂, subst, _∙_}
-use mathlib.Core.Bool.{Bool, true, false, not, _||_, cond}
+use mathlib.Core.Bool.{Bool, true, false, _||_, cond}
 use mathlib.Core.Option.{Option, none, some}
 use mathlib.Core.List.{List, [], _∷_, _++_, map}
 use native.Mathlib.Omega.{arith}
-use lib.ListN.{length, getD, length-map, length-append}
-use lib.Dec.{T, eqb}
+use lib.ListN.{length, getD, length-map}
+use lib.Dec.{T}
 use Rattle.rules.specs.Lists.{any, keep, isNone, orElse, concatMap, has, upFrom, NumberSet, nothing, members}
 use Rattle.rules.specs.Tree.{Instruction, Function}
 use Rattle.rules.specs.Graph.{blockAt, isMarked, instructionsOf, reachable}
@@ -16,12 +16,11 @@ use Rattle.lists.specs.Tests.{T-ext, or-right}
 use Rattle.lists.specs.Maps.{map-map, map-concatMap, concatMap-same}
 use Rattle.lists.specs.Members.{has→∈, ∈→has}
 use Rattle.lists.specs.Sets.{Within}
-use Rattle.lists.specs.Anys.{any-same}
 use Rattle.fixpoint.specs.Finding.{∈-keep, keep-passes, ∈-upFrom}
 use Rattle.fixpoint.specs.Rule.{beforeAll-marked, marked-in-file}
 use Rattle.fixpoint.specs.Least.{live-out-marked}
 use Rattle.fixpoint.specs.Answer.{process-outs-live}
-use Rattle.listing.specs.Crossings.{crossing, crossingsAmong, crossings, crossingsBelow, allCrossings, shown, listed}
+use Rattle.listing.specs.Crossings.{crossing, crossingsAmong, crossings, allCrossings, shown, listed}
 
 module _ (f : Function) where
   abbrev n : ℕ

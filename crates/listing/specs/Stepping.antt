@@ -1,6 +1,6 @@
 -- The walk back over a block's records, instruction by instruction: where it stands, and what the rows are there.
-use Prim.Native.Nat.{ℕ, zero, suc, _+_, _-_, _*_, _<_, _≤_}
-use mathlib.Core.Path.{_≡_, refl, sym, ap, ap₂, subst, _∙_}
+use Prim.Native.Nat.{ℕ, zero, suc, _+_, _-_, _<_, _≤_}
+use mathlib.Core.Path.{_≡_, sym, ap, ap₂, subst, _∙_}
 use mathlib.Core.Bool.{Bool, true, false, _&&_, cond}
 use mathlib.Core.List.{List, [], _∷_, _++_, map}
 use native.Mathlib.Omega.{arith}
@@ -9,7 +9,7 @@ use lib.Dec.{T, eqb}
 use Rattle.rules.specs.Lists.{all, update, NumberSet}
 use Rattle.rules.specs.Tree.{Instruction, Function}
 use Rattle.rules.specs.Records.{kind, recordAt, recordCount}
-use Rattle.rules.specs.File.{follows, Section, Cut, cut, instructionOf, opensItem, functionIn}
+use Rattle.rules.specs.File.{follows, Cut, cut, instructionOf, opensItem, functionIn}
 use Rattle.rules.specs.Liveness.{before, beforeAll}
 use Rattle.rules.specs.declared.Record.{Record}
 use Rattle.lists.specs.Tests.{and-left, and-right, passes-at, eqb-same, is-true}

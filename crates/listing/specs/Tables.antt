@@ -2,31 +2,28 @@
 use Prim.Native.Nat.{ℕ, zero, suc, _+_, _-_, _*_, _<_, _≤_}
 use mathlib.Core.Path.{_≡_, refl, sym, ap, ap₂, subst, _∙_}
 use mathlib.Core.Bool.{Bool, true, false, not, _||_}
-use mathlib.Core.List.{List, [], _∷_, _++_, map}
+use mathlib.Core.List.{List, [], _∷_, _++_}
 use native.Mathlib.Omega.{arith}
 use native.Mathlib.Numerals.{add-one}
 use lib.ListN.{length, getD, length-map, length-append}
-use lib.Dec.{T, eqb, eqb·suc-zero}
+use lib.Dec.{eqb, eqb·suc-zero}
 use borrow.Author.Tests.{eq-eqb, ne-eqb}
 use Rattle.rules.specs.Limits.{rowWords}
-use Rattle.rules.specs.Lists.{has, any, update, upFrom, union, NumberSet, nothing}
+use Rattle.rules.specs.Lists.{has, any, update, upFrom, union, NumberSet}
 use Rattle.rules.specs.Tree.{Instruction, Function}
-use Rattle.rules.specs.Records.{recordCount}
 use Rattle.rules.specs.File.{instructionOf, functionIn}
 use Rattle.rules.specs.Graph.{blockAt, instructionsOf, reachable}
 use Rattle.rules.specs.Liveness.{process, lists}
-use Rattle.rules.specs.declared.Record.{Record}
 use Rattle.records.specs.Parts.{blockBody}
 use Rattle.lists.specs.Anys.{any-joined}
-use Rattle.graph.specs.Between.{between}
 use Rattle.graph.specs.Blocks.{placeOf, block-body, instructions-by-place}
 use Rattle.graph.specs.Sections.{places, sectionsAt, length-sectionsAt}
-use Rattle.graph.specs.Tables.{Given, tagFrom, indexTag, indexTable, indexTable-at}
+use Rattle.graph.specs.Tables.{Given, tagFrom, indexTable, indexTable-at}
 use Rattle.graph.specs.ByTable.{place-at, end-le, start-less, body-by-table}
 use Rattle.rows.specs.Rows.{rows, rowValues}
 use Rattle.fixpoint.specs.Finding.{update-here, update-again}
 use Rattle.blocksets.specs.InRows.{InRows}
-use Rattle.listing.specs.Crossings.{fill, fill-none, crossingsAmong, crossings, crossingsBelow, allCrossings, crossings-more, length-crossings, crossings-reachable, crossings-unreachable, upFrom-more}
+use Rattle.listing.specs.Crossings.{fill, fill-none, crossingsAmong, crossings, crossingsBelow, crossings-more, length-crossings, crossings-reachable, crossings-unreachable, upFrom-more}
 use Rattle.listing.specs.Stepping.{headsFrom, instructionsFrom, BlockRecords}
 use Rattle.listing.specs.Listed.{together, length-lists}
 

@@ -1,9 +1,9 @@
 -- Values passed over: what is kept of numbers in order does not change where none of them is in the set.
 use Prim.Native.Nat.{ℕ, zero, suc, _+_, _-_, _<_, _≤_}
 use native.Mathlib.Omega.{arith}
-use mathlib.Core.Path.{_≡_, refl, sym, ap, _∙_}
+use mathlib.Core.Path.{_≡_, sym, ap, _∙_}
 use mathlib.Core.Bool.{Bool, true, false}
-use mathlib.Core.List.{List, _∷_}
+use mathlib.Core.List.{_∷_}
 use Rattle.rules.specs.Lists.{keep, upFrom, NumberSet}
 
 -- none of the next k numbers is in the set

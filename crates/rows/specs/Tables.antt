@@ -6,12 +6,12 @@ use mathlib.Core.Path.{_≡_, refl, sym, ap, ap₂, _∙_}
 use mathlib.Core.List.{List, [], _∷_, _++_, map}
 use lib.ListN.{length, getD, take, drop, replicate, take-append-drop, length-drop, length-append, length-map, length-replicate}
 use lib.ListN.{getD-replicate}
-use lib.Seq.{length-take-le, take-all, getD-take, getD-drop, ext-getD}
+use lib.Seq.{length-take-le, getD-take, getD-drop, ext-getD}
 use Rattle.rules.specs.Limits.{largestBlocks, rowWords, tableWords}
 use Rattle.rules.specs.Lists.{concatMap, upFrom, padded, NumberSet, nothing}
 use Rattle.rules.specs.Services.{rowWord, table}
 use Rattle.rows.specs.Bits.{bit-zero, bitsFrom-bits}
-use Rattle.rows.specs.Rows.{rows, rows-bit, rows-none}
+use Rattle.rows.specs.Rows.{rows, rows-bit}
 
 -- LISTS BY PLACE. A list is what a function gives at its places, n of them from a on,
 map-by-place :
@@ -108,10 +108,6 @@ table-front t fits w =
     ap (λ x. rowWord (rows t x) j) row ∙ rowWord-rows t b j w l ∙ ap (λ i. getD t i 0) place
     ∙ sym (getD-take tableWords t (b * rowWords + j) 0 (omega arith))))
 
--- so a table of that many words is it;
-pub table-rows : (t : List ℕ) → length t ≡ tableWords → Words64 t → t ≡ table (rows t)
-table-rows t e w = sym (take-all tableWords t (omega arith)) ∙ table-front t (omega arith) w
-
 -- and of a longer one, where the rows beyond are empty, the rest is zeros.
 pub table-padded :
     (t : List ℕ) → tableWords ≤ length t → Words64 t → ((b : ℕ) → largestBlocks ≤ b → rows t b ≡ nothing)
@@ -137,8 +133,3 @@ table-padded t fits w beyond =
         let m : i < length t - tableWords = omega (arith, length-drop tableWords t) in
         getD-drop tableWords t i 0 ∙ zero-word (tableWords + i) (omega arith)
         ∙ sym (getD-replicate (length t - tableWords) i 0 0 m)))
-
--- Those rows are empty where the words there are zero.
-pub rows-beyond :
-    (t : List ℕ) → ((i : ℕ) → tableWords ≤ i → getD t i 0 ≡ 0) → (b : ℕ) → largestBlocks ≤ b → rows t b ≡ nothing
-rows-beyond t h b l = rows-none t b (λ k _. h (rowWords * b + k) (omega arith))

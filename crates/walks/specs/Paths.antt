@@ -48,10 +48,6 @@ module _ {f : Function} where
   pub strictly-dominates : {d b : ℕ} → StrictlyDominates f d b → Dominates f d b
   strictly-dominates h passed p = there (h passed p)
 
-  -- what dominates the target of an edge, and is not the target, dominates the source
-  pub dominates-source : {d b t : ℕ} → Dominates f d t → d ≢ t → t ∈ successors f b → Dominates f d b
-  dominates-source {b = b} h other s passed p = ∈-elim (λ e. absurd (other e)) (λ m. m) (h (b ∷ passed) (onward p s))
-
   module _ {b : ℕ} {passed : List ℕ} (p : PathTo f b passed) where
     -- a block that is not on some path to b does not dominate b
     pub not-dominates : {d : ℕ} → d ≢ b → (d ∈ passed → ⊥) → ¬ Dominates f d b

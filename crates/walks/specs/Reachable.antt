@@ -1,23 +1,19 @@
 -- The laws of the walk: which blocks `reachable` lists, once each, and in which order. They hold of every function.
 -- Even where an edge leads out of the file the definition's depth is enough, for no edge leads on from there.
-use Prim.Native.Nat.{ℕ, suc, _<_, _≤_}
-use native.Mathlib.Omega.{arith}
+use Prim.Native.Nat.{ℕ}
 use mathlib.Core.Path.{_≡_, refl, sym, subst}
 use mathlib.Core.Logic.{_≢_, ⊎-elim}
 use mathlib.Core.HLevel.{¬-prop}
-use mathlib.Core.List.{List, [], _∷_, _++_, reverse, reverse-cons, List·Nodup, Pairwise, pairwise-append}
+use mathlib.Core.List.{List, [], _∷_, _++_, List·Nodup, Pairwise, pairwise-append}
 use mathlib.Core.List.{List·Memᴰ·append-cases, List·Memᴰ·eq-of-singleton, Memᴰ·append-right}
-use lib.ListN.{length, getD, take, drop}
-use lib.Seq.{split-at, getD-take, length-take-le}
-use lib.Dec.{ltb, ltb→lt, nltb→le}
-use Rattle.rules.specs.Lists.{foldl, has}
+use Rattle.rules.specs.Lists.{has}
 use Rattle.rules.specs.Tree.{Function}
-use Rattle.rules.specs.Graph.{Walk, enter, successors, reachable}
+use Rattle.rules.specs.Graph.{successors, reachable}
 use Rattle.rules.specs.Demand3.{PathTo, start, onward}
-use Rattle.lists.specs.Tests.{test-elim, T-ext}
+use Rattle.lists.specs.Tests.{T-ext}
 use Rattle.lists.specs.Members.{has→∈, ∈→has}
-use Rattle.lists.specs.Members.{_∈_, here, not-∈-nil, ∈-elim, ∈-reverseAux, getD-∈}
-use Rattle.walks.specs.Paths.{Dominates, StrictlyDominates, strictly-dominates, Path-along, path-along-mono}
+use Rattle.lists.specs.Members.{_∈_, here, not-∈-nil, ∈-elim, ∈-reverseAux}
+use Rattle.walks.specs.Paths.{Dominates, StrictlyDominates, Path-along, path-along-mono}
 use Rattle.walks.specs.Walks.{stageOf, walked, walked-walks, walks-enter}
 use Rattle.walks.specs.Line.{Sound, untouched-sound, sound-nodup, walks-sound, walks-closed}
 
@@ -63,14 +59,6 @@ module _ (f : Function) where
   pub reachable-nodup : List·Nodup (reachable f)
   reachable-nodup = sound-nodup reachable-sound
 
-  -- IN WHICH ORDER. Block 0 has the highest index.
-  pub reachable-last : (before : List ℕ) × (reachable f ≡ before ++ (0 ∷ []))
-  unfolding reachable
-  reachable-last =
-      let inside : Walk =
-      foldl (enter f (length (f .blocks))) (record { entered = 0 ∷ []; done = [] }) (successors f 0) in
-      (reverse (inside .done), reverse-cons 0 (inside .done))
-
   -- No block dominates one that stands behind it.
   pub reachable-ordered : Pairwise (λ b d. ¬ Dominates f b d) (reachable f)
   reachable-ordered = reachable-sound .ordered
@@ -101,22 +89,3 @@ module _ (f : Function) where
     dominator-behind {d} h other =
         ⊎-elim (λ k. absurd (dominator-not-before k h)) (∈-elim (λ e. absurd (other e)) (λ k. k))
         (List·Memᴰ·append-cases before (subst (_∈_ d) turn (dominator-reachable turn-reachable h)))
-
-    -- and so are all its strict dominators.
-    pub strict-dominator-behind : {d : ℕ} → StrictlyDominates f d b → d ∈ behind
-    strict-dominator-behind h = dominator-behind (strictly-dominates h) (strict-dominator-ne turn-reachable h)
-
-  -- By index: no dominator of a block has a lower one.
-  pub dominator-index-le :
-      (i j : ℕ) → i < length (reachable f) → Dominates f (getD (reachable f) j 0) (getD (reachable f) i 0) → i ≤ j
-  dominator-index-le i j l h = test-elim (ltb j i) (λ lower. absurd (earlier (ltb→lt j i lower))) (nltb→le j i)
-    where
-      front : List ℕ
-      front = take i (reachable f)
-
-      earlier : j < i → ⊥
-      earlier k =
-          let long : length front ≡ i = length-take-le i (reachable f) (omega arith) in
-          let taken : getD front j 0 ∈ front = getD-∈ front j 0 (omega arith) in
-          dominator-not-before front (drop (suc i) (reachable f)) (split-at (reachable f) i 0 l)
-          (subst (λ d. d ∈ front) (getD-take i (reachable f) j 0 k) taken) h

@@ -1,7 +1,6 @@
 -- `program::refused_line` meets its contract.
 use Prim.Native.Nat.{ℕ, _<_}
 use mathlib.Core.Path.{sym, ap, subst, _∙_}
-use native.Mathlib.Omega.{arith}
 use lib.ListN.{length}
 use Rattle.rules.specs.Lists.{padded}
 use Rattle.rules.specs.Services.{refusedLine}
@@ -10,9 +9,6 @@ use Rattle.program.proofs.Lines.{refusal-small, one-digit, two-digits}
 use borrow.Author.Needs.{needs}
 use Rattle.program.proofs.refused_line.Statement.{statement}
 use Rattle.program.proofs.refused_line.Tie as tie
-use Rattle.program.proofs.refused_line.Reads as reads
-use Rattle.program.proofs.refused_line.Lts as lts
-use Rattle.acceptance.proofs.verdict.refusal_number.Reads as refusal-number-reads
 
 refusal-number-requires : tie.Need-refusal-number-requires
 refusal-number-requires c κs = search needs

@@ -1,7 +1,6 @@
 -- `threshskiff::threshskiff_rewrite` meets its contract.
 use Prim.Native.Nat.{ℕ}
 use mathlib.Core.Path.{ap, _∙_}
-use Rattle.rules.specs.Records.{bit}
 use Rattle.rules.specs.declared.RewritingAnswer.{RewritingAnswer}
 use Rattle.threshskiff.specs.Numbers.{rewritingNumbers}
 use Rattle.threshskiff.specs.declared.ThreshskiffRewriting.{ThreshskiffRewriting}

@@ -13,7 +13,7 @@ use Rattle.rules.specs.File.{functionIn}
 use Rattle.rules.specs.Lists.{nothing}
 use native.Mathlib.Omega.{arith}
 use lib.ListN.{length, getD}
-use mathlib.Core.Path.{_≡_, refl, sym, _∙_, ap}
+use mathlib.Core.Path.{_≡_, refl, _∙_, ap}
 use Prim.Native.Nat.{_≤_, _<_, _-_, _+_}
 use Rattle.blocksets.proofs.blocks.block_sets.Statement.{statement}
 use Rattle.blocksets.proofs.blocks.block_sets.Tie as tie

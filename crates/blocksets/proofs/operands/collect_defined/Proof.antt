@@ -1,14 +1,12 @@
 -- `blocksets::operands::collect_defined` meets its contract.
 use borrow.Author.Needs.{needs}
-use lib.Dec.{T}
 use Rattle.blocksets.proofs.Back.{backTo, backTo-end, backTo-more}
 use Rattle.blocksets.specs.InRows.{record-in-row}
-use Rattle.blocksets.specs.Operands.{operandOf, inRow, withDefined}
+use Rattle.blocksets.specs.Operands.{operandOf, withDefined}
 use Rattle.rows.specs.Rows.{rows}
-use Rattle.rules.specs.File.{functionIn}
 use native.Mathlib.Omega.{arith}
 use lib.ListN.{length}
-use mathlib.Core.Path.{_≡_, refl, sym, _∙_, ap}
+use mathlib.Core.Path.{_≡_, refl, _∙_, ap}
 use Prim.Native.Nat.{_≤_, _-_}
 use Rattle.blocksets.proofs.operands.collect_defined.Statement.{statement}
 use Rattle.blocksets.proofs.operands.collect_defined.Tie as tie

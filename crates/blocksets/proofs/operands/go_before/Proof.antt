@@ -1,11 +1,10 @@
 -- `blocksets::operands::go_before` meets its contract.
 use Rattle.blocksets.specs.Operands.{inRow, liveBefore}
-use lib.Dec.{T, ltb→lt, ltb}
-use native.Mathlib.Omega.{arith}
+use lib.Dec.{ltb→lt, ltb}
 use Rattle.fixpoint.specs.Finding.{update-self}
 use Rattle.rows.specs.Rows.{rows, rowValues}
 use Rattle.rules.specs.File.{functionIn}
-use Rattle.rules.specs.Lists.{update, adding, removing}
+use Rattle.rules.specs.Lists.{update, removing}
 use mathlib.Core.List.{[], _∷_}
 use mathlib.Core.Path.{refl, sym, _∙_, ap, _≡_}
 use borrow.Author.Needs.{needs}

@@ -1,7 +1,6 @@
 -- `blocksets::operands::insert_defined` meets its contract.
 use Rattle.blocksets.specs.Operands.{inRow, withDefined}
-use lib.Dec.{T, ltb→lt, ltb}
-use native.Mathlib.Omega.{arith}
+use lib.Dec.{ltb→lt, ltb}
 use Rattle.fixpoint.specs.Finding.{update-self}
 use Rattle.rows.specs.Rows.{rows, rowValues}
 use Rattle.rules.specs.Lists.{update, adding}

@@ -6,7 +6,7 @@ use Rattle.lists.specs.Tests.{is-true}
 use Rattle.rules.specs.Lists.{update, adding}
 use Rattle.rules.specs.File.{functionIn}
 use mathlib.Core.List.{[], _∷_}
-use mathlib.Core.Path.{refl, sym, _∙_, ap}
+use mathlib.Core.Path.{sym, _∙_, ap}
 use borrow.Author.Needs.{needs}
 use Rattle.blocksets.proofs.operands.insert_marked.Statement.{statement}
 use Rattle.blocksets.proofs.operands.insert_marked.Tie as tie

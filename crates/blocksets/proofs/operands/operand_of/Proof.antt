@@ -4,7 +4,7 @@ use Rattle.blocksets.proofs.operands.operand_of.Statement.{statement}
 use Rattle.blocksets.proofs.operands.operand_of.Tie as tie
 use mathlib.Core.List.{List, [], _∷_}
 use Prim.Native.Nat.{ℕ}
-use mathlib.Core.Path.{_≡_, refl, sym, _∙_, ap}
+use mathlib.Core.Path.{_≡_, refl, sym}
 use types.Run.{OneOf, miss}
 use denote.Enum.Declared.{tagOf}
 use Rattle.rules.proofs.Record.{the-type}

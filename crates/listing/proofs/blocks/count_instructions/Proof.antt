@@ -1,17 +1,13 @@
 -- `listing::blocks::count_instructions` meets its contract.
 use Rattle.listing.proofs.Counting.{heads-none, heads-one, heads-other, heads-few}
 use Rattle.listing.specs.Stepping.{headsFrom}
-use Rattle.graph.specs.Sections.{places}
-use Rattle.graph.specs.Between.{between-none}
 use Rattle.rules.specs.Records.{kind, recordAt}
 use borrow.Author.Tests.{eq-eqb, ne-eqb}
 use native.Mathlib.Omega.{arith}
 use lib.ListN.{length}
 use lib.Dec.{eqb}
-use mathlib.Core.List.{[]}
-use mathlib.Core.Bool.{Bool, true, false}
-use mathlib.Core.Path.{_≡_, refl, sym, _∙_, ap}
-use Prim.Native.Nat.{_≤_, _-_, _+_, suc}
+use mathlib.Core.Path.{_≡_, sym, _∙_, ap}
+use Prim.Native.Nat.{_≤_, _-_}
 use Rattle.listing.proofs.blocks.count_instructions.Statement.{statement}
 use Rattle.listing.proofs.blocks.count_instructions.Tie as tie
 

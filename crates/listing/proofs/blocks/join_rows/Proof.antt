@@ -8,7 +8,7 @@ use Rattle.rules.specs.Lists.{update, union, NumberSet}
 use native.Mathlib.Omega.{arith}
 use lib.ListN.{length}
 use mathlib.Core.Path.{_≡_, refl, sym, _∙_, ap}
-use Prim.Native.Nat.{ℕ, _≤_, _<_, _-_, _+_}
+use Prim.Native.Nat.{ℕ, _≤_, _-_}
 use Rattle.listing.proofs.blocks.join_rows.Statement.{statement}
 use Rattle.listing.proofs.blocks.join_rows.Tie as tie
 

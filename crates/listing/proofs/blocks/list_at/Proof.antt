@@ -1,19 +1,17 @@
 -- `listing::blocks::list_at` meets its contract.
-use Rattle.listing.specs.Stepping.{opens, spot, spotAt, liveAt, listsAt}
+use Rattle.listing.specs.Stepping.{opens, spot}
 use Rattle.listing.specs.Across.{sectionAt}
 use Rattle.listing.specs.Crossings.{put, crossing}
-use Rattle.listing.specs.declared.blocks.Spot.{Spot}
 use Rattle.rows.specs.Rows.{rows}
 use Rattle.rules.specs.Liveness.{before}
 use Rattle.rules.specs.File.{functionIn, instructionOf}
-use Rattle.rules.specs.Records.{kind, recordAt}
+use Rattle.rules.specs.Records.{kind}
 use Rattle.rules.specs.Lists.{update, NumberSet}
 use borrow.Author.Tests.{eq-eqb, ne-eqb}
 use native.Mathlib.Omega.{arith}
-use lib.Dec.{eqb, T}
-use mathlib.Core.List.{List}
+use lib.Dec.{eqb}
 use mathlib.Core.Bool.{Bool, true, false, cond}
-use mathlib.Core.Path.{_≡_, refl, sym, _∙_, ap}
+use mathlib.Core.Path.{_≡_, sym, _∙_, ap}
 use Prim.Native.Nat.{ℕ, _-_}
 use borrow.Author.Needs.{needs}
 use Rattle.listing.proofs.blocks.list_at.Statement.{statement}

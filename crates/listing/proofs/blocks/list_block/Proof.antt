@@ -1,8 +1,7 @@
 -- `listing::blocks::list_block` meets its contract.
 use borrow.Author.Needs.{needs}
-use Rattle.listing.specs.Stepping.{Opened, Reached, headsFrom, instructionsFrom, heads-bounds, opened-at, reached-start, reached-back, opened-before}
+use Rattle.listing.specs.Stepping.{Reached, headsFrom, instructionsFrom, heads-bounds, reached-start, reached-back, opened-before}
 use Rattle.listing.specs.Crossings.{fill, crossingsAmong}
-use Rattle.graph.specs.Sections.{firstOr}
 use Rattle.fixpoint.specs.Finding.{update-here}
 use Rattle.rows.specs.Rows.{rows}
 use Rattle.rules.specs.File.{functionIn}
@@ -10,8 +9,8 @@ use Rattle.rules.specs.Lists.{NumberSet}
 use native.Mathlib.Omega.{arith}
 use lib.ListN.{length}
 use mathlib.Core.List.{List, [], _∷_}
-use mathlib.Core.Path.{_≡_, refl, sym, _∙_, ap}
-use Prim.Native.Nat.{ℕ, _≤_, _-_, _+_, suc}
+use mathlib.Core.Path.{_≡_, refl, _∙_, ap}
+use Prim.Native.Nat.{ℕ, _≤_, _-_}
 use Rattle.listing.proofs.blocks.list_block.Statement.{statement}
 use Rattle.listing.proofs.blocks.list_block.Tie as tie
 

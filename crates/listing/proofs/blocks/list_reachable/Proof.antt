@@ -3,7 +3,7 @@ use Rattle.listing.specs.Tables.{list-in-rows, below-fits, block-records
 use Rattle.graph.specs.ByTable.{places-long, end-le, start-less}
 use Rattle.rows.specs.Rows.{rows}
 use native.Mathlib.Omega.{arith}
-use mathlib.Core.Path.{_≡_, refl, sym, _∙_, ap}
+use mathlib.Core.Path.{_∙_, ap}
 use Prim.Native.Nat.{ℕ, _+_}
 use borrow.Author.Needs.{needs}
 use Rattle.listing.proofs.blocks.list_reachable.Statement.{statement}

@@ -5,11 +5,10 @@ use Rattle.listing.specs.Listed.{length-lists, shown-listed}
 use Rattle.listing.specs.Crossings.{fill, shown, shown-append, crossings, crossingsBelow, crossings-more}
 use Rattle.rows.specs.Rows.{rows, rows-zeros}
 use Rattle.rules.specs.File.{functionIn}
-use Rattle.rules.specs.Lists.{NumberSet}
 use native.Mathlib.Omega.{arith}
 use lib.ListN.{length}
 use mathlib.Core.Path.{_≡_, refl, sym, subst, _∙_, ap}
-use Prim.Native.Nat.{ℕ, _≤_, _<_, _-_, _+_}
+use Prim.Native.Nat.{ℕ, _≤_, _-_}
 use Rattle.listing.proofs.blocks.list_rows.Statement.{statement}
 use Rattle.listing.proofs.blocks.list_rows.Tie as tie
 

@@ -5,7 +5,7 @@ use Rattle.rows.specs.Rows.{rows, rows-zeros}
 use Rattle.rules.specs.File.{functionIn}
 use Rattle.rules.specs.Lists.{update, union, NumberSet, nothing}
 use lib.ListN.{length}
-use mathlib.Core.Path.{_≡_, refl, sym, _∙_, ap}
+use mathlib.Core.Path.{_≡_, _∙_, ap}
 use Prim.Native.Nat.{ℕ}
 use borrow.Author.Needs.{needs}
 use Rattle.listing.proofs.blocks.list_safepoints.Statement.{statement}

@@ -6,9 +6,8 @@ use Rattle.rules.specs.Records.{kind, recordAt}
 use borrow.Author.Tests.{eq-eqb, ne-eqb}
 use native.Mathlib.Omega.{arith}
 use lib.Dec.{eqb}
-use mathlib.Core.Bool.{true, false}
 use mathlib.Core.Path.{_≡_, refl, sym, _∙_, ap}
-use Prim.Native.Nat.{_≤_, _-_, _+_}
+use Prim.Native.Nat.{_≤_, _-_}
 use Rattle.listing.proofs.instructions.behind_arguments.Statement.{statement}
 use Rattle.listing.proofs.instructions.behind_arguments.Tie as tie
 

@@ -1,7 +1,7 @@
 -- `listing::instructions::is_safepoint` meets its contract.
 use Rattle.rules.specs.declared.Words.{Words}
 use Rattle.rules.specs.Records.{isSafepoint}
-use mathlib.Core.Path.{_≡_, refl, sym, _∙_, ap}
+use mathlib.Core.Path.{ap}
 use borrow.Author.Needs.{needs}
 use Rattle.listing.proofs.instructions.is_safepoint.Statement.{statement}
 use Rattle.listing.proofs.instructions.is_safepoint.Tie as tie

@@ -1,7 +1,6 @@
 -- `listing::instructions::list_instruction` meets its contract.
 use Rattle.listing.proofs.Instruction.{crossed-listed, crossed-before}
 use Rattle.rows.specs.Rows.{rows}
-use mathlib.Core.Path.{_≡_, refl, sym, _∙_, ap}
 use borrow.Author.Needs.{needs}
 use Rattle.listing.proofs.instructions.list_instruction.Statement.{statement}
 use Rattle.listing.proofs.instructions.list_instruction.Tie as tie

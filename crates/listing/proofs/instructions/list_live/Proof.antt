@@ -2,11 +2,11 @@
 use Rattle.listing.specs.Crossings.{put}
 use Rattle.rows.specs.Rows.{rows}
 use Rattle.rules.specs.declared.Record.{Record}
-use Rattle.rules.specs.Records.{isSafepoint, encode, recordAt}
+use Rattle.rules.specs.Records.{isSafepoint, encode}
 use Rattle.rules.specs.Lists.{NumberSet}
 use mathlib.Core.Option.{Option, none, some}
-use mathlib.Core.Bool.{true, false, cond}
-use mathlib.Core.Path.{_≡_, refl, sym, _∙_, ap}
+use mathlib.Core.Bool.{cond}
+use mathlib.Core.Path.{sym, _∙_, ap}
 use borrow.Author.Needs.{needs}
 use Rattle.listing.proofs.instructions.list_live.Statement.{statement}
 use Rattle.listing.proofs.instructions.list_live.Tie as tie

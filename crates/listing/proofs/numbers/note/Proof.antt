@@ -1,10 +1,8 @@
 -- `listing::numbers::note` meets its contract.
 use Rattle.graph.specs.Sections.{placeIf}
-use lib.Seq.{sets}
 use lib.ListN.{length, set}
-use mathlib.Core.Path.{_≡_, refl, sym, ap, _∙_}
+use mathlib.Core.Path.{_≡_, refl, ap}
 use mathlib.Core.List.{[]}
-use mathlib.Core.Bool.{true, false}
 use native.Mathlib.Omega.{arith}
 use borrow.Author.Needs.{needs}
 use Rattle.listing.proofs.numbers.note.Statement.{statement}

@@ -12,7 +12,7 @@ use lib.ListN.{length, getD}
 use mathlib.Core.Option.{none}
 use mathlib.Core.List.{List}
 use mathlib.Core.Bool.{not}
-use mathlib.Core.Path.{_≡_, refl, sym, _∙_, ap}
+use mathlib.Core.Path.{_≡_, sym, _∙_, ap}
 use Prim.Native.Nat.{ℕ, _≤_, _<_, _-_, _+_}
 use Rattle.listing.proofs.safepoints.is_reachable_safepoint.Statement.{statement}
 use Rattle.listing.proofs.safepoints.is_reachable_safepoint.Tie as tie

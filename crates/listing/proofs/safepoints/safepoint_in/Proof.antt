@@ -4,16 +4,15 @@ use Rattle.listing.specs.Stepping.{opens, instructionsFrom}
 use Rattle.graph.specs.Sections.{places, sectionsAt}
 use Rattle.graph.specs.Between.{between-none}
 use Rattle.rules.specs.declared.Record.{Record}
-use Rattle.rules.specs.Records.{kind, recordAt, isSafepoint, encode}
+use Rattle.rules.specs.Records.{kind, isSafepoint, encode}
 use Rattle.rules.specs.File.{instructionOf}
-use Rattle.rules.specs.Tree.{Instruction}
 use borrow.Author.Tests.{eq-eqb, ne-eqb}
 use native.Mathlib.Omega.{arith}
 use lib.Dec.{eqb}
 use mathlib.Core.List.{List, map}
 use mathlib.Core.Bool.{true, false}
 use mathlib.Core.Path.{_≡_, refl, sym, _∙_, ap}
-use Prim.Native.Nat.{ℕ, _≤_, _<_, _-_, _+_}
+use Prim.Native.Nat.{ℕ, _≤_, _-_}
 use Rattle.listing.proofs.safepoints.safepoint_in.Statement.{statement}
 use Rattle.listing.proofs.safepoints.safepoint_in.Tie as tie
 
