@@ -1,2 +1,3 @@
 pub mod Analysis
 pub mod Live
+pub mod Tables

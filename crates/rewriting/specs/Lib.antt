@@ -3,7 +3,6 @@ pub mod Found
 pub mod Planning
 pub mod Plans
 pub mod Rows
-pub mod Tables
 pub mod Trees
 pub mod Unspilled
 pub mod Values

@@ -37,7 +37,7 @@ use Rattle.rewriting.specs.declared.Found.{Found}
 use Rattle.rewriting.specs.declared.Planned.{Planned}
 use Rattle.rewriting.specs.Plans.{countsOf, PlanFound}
 use Rattle.rewriting.specs.Rows.{PointerFine, Spilling}
-use Rattle.rewriting.specs.Tables.{index-tables}
+use Rattle.analysis.specs.Tables.{index-tables}
 use Rattle.rewriting.specs.Trees.{accepted-tree}
 use Rattle.rewriting.specs.Values.{values-first}
 

@@ -9,7 +9,7 @@ use lib.ListN.{length, replicate, List·getD-eq-default}
 use lib.Seq.{sets}
 use lib.Dec.{T, eqb, ltb, ltb→lt, nltb→le}
 use borrow.Author.Tests.{lt-ltb, le-ltb}
-use Rattle.rules.specs.Limits.{largestInstructions, tableWords}
+use Rattle.rules.specs.Limits.{largestInstructions}
 use Rattle.rules.specs.Lists.{all, isNone, orElse, NumberSet, padded}
 use Rattle.rules.specs.Tree.{Function}
 use Rattle.rules.specs.File.{functionIn}
@@ -21,15 +21,12 @@ use Rattle.rules.specs.declared.Verdict.{Verdict}
 use Rattle.rules.specs.declared.Verdict.the-variants as verdict
 use Rattle.lists.specs.Tests.{test-elim, and-left, and-right, chosen, left-out}
 use Rattle.graph.specs.Few.{values-few, instructions-few}
-use Rattle.graph.specs.Room.{blank-zeros}
-use Rattle.graph.specs.Tables.{indexTable, length-indexTable}
 use Rattle.graph.specs.Zeros.{Zeros, sets-padded}
 use Rattle.listing.specs.Ascending.{ascending, list-ascending, length-lists-instructions}
 use Rattle.listing.specs.Crossings.{listed}
-use Rattle.acceptance.specs.Stages.{firstOf-append, functionPasses}
-use Rattle.acceptance.specs.Survey.{SurveyTables, BlankTables, Surveyed, accepted-is, accepted-passes, surveyed-walked, Indexed}
+use Rattle.acceptance.specs.Stages.{firstOf-append}
+use Rattle.acceptance.specs.Survey.{accepted-is, Indexed}
 use Rattle.acceptance.specs.declared.survey.BlockCounts.{BlockCounts}
-use Rattle.analysis.specs.Live.{Lent}
 use Rattle.services.specs.ListRow.{rowAnswer, rowNumbers}
 
 -- THE ROW'S ANSWER: too short, or its values
@@ -171,16 +168,6 @@ file-uncounted s refused k = first (fileRefusals s) tt refused
 
 -- THE TABLES for the lists of an accepted file
 module _ {s places order index : List ℕ} {blocks : BlockCounts} (h : Indexed s places order index blocks) where
-  pub lent-own : Lent s places order blocks (replicate tableWords 0) (replicate tableWords 0)
-  lent-own =
-      record {
-        readable = accepted-is s (h .accepted) .readable;
-        walked = h .walked;
-        all-counted = h .all-counted;
-        in-blank = blank-zeros tableWords;
-        out-blank = blank-zeros tableWords;
-      }
-
   -- a listed instruction has a row
   pub row-there : (i : ℕ) → isNone (listAsked s i) ≡ false → i < largestInstructions
   row-there i e =
@@ -193,23 +180,6 @@ module _ {s places order index : List ℕ} {blocks : BlockCounts} (h : Indexed s
 
   pub asked-ascending : (i : ℕ) → isNone (listAsked s i) ≡ false → listAsked s i ≡ some (ascending (listed (functionIn s) i))
   asked-ascending i e = list-ascending (functionIn s) (values-few s (accepted-is s (h .accepted) .readable .few)) i e
-
--- The survey's tables are such.
-pub surveyed-indexed :
-    {s : List ℕ} {lent back : SurveyTables} {v : Verdict} {blocks : BlockCounts} → BlankTables lent → Surveyed s lent back v blocks
-    → T (isAccepted (firstOf (fileRefusals s))) → Indexed s (back .places) (back .order) (back .index) blocks
-surveyed-indexed {s} {lent} {back} b g passed =
-    let passes = accepted-passes s passed .0 in
-    let index : back .index ≡ indexTable (functionIn s) (length (lent .index)) =
-    g .index ∙ chosen (functionPasses s) (indexTable (functionIn s) (length (lent .index))) (lent .index) passes in
-    let long : length (back .index) ≡ length (lent .index) = ap length index ∙ length-indexTable (functionIn s) (length (lent .index)) in
-    record {
-      accepted = passed;
-      walked = surveyed-walked b g (subst (λ v. T (isAccepted v)) (sym (g .says)) passed);
-      all-counted = g .all-counted ∙ chosen (functionPasses s) (length (functionIn s .blocks)) 0 passes;
-      indexed = index ∙ ap (indexTable (functionIn s)) (sym long);
-      index-long = omega (arith, b .index .0);
-    }
 
 -- Whether there is a list, as code asks for it.
 pub asked-none : {r a : Bool} → r ≡ not a → not r ≡ true → a ≡ true

@@ -4,7 +4,7 @@ use mathlib.Core.Path.{_≡_, sym, ap, ap₂, subst, _∙_}
 use mathlib.Core.Bool.{Bool, true, false, not, _||_}
 use mathlib.Core.List.{List, [], _∷_}
 use native.Mathlib.Omega.{arith}
-use lib.ListN.{length, replicate, length-replicate}
+use lib.ListN.{length, replicate}
 use lib.Dec.{T, T-not, not-T, ltb, nltb→le}
 use Rattle.rules.specs.Limits.{largestBlocks, tableWords}
 use Rattle.rules.specs.Lists.{has, NumberSet, nothing, padded}
@@ -22,19 +22,12 @@ use Rattle.lists.specs.Members.{has→∈}
 use Rattle.walks.specs.InFile.{blocks-some, reachable-in-file}
 use Rattle.fixpoint.specs.Answer.{process-ins-unreachable, process-outs-unreachable}
 use Rattle.graph.specs.Few.{blocks-few}
-use Rattle.graph.specs.Room.{Blank}
 use Rattle.rows.specs.Rows.{rows}
 use Rattle.rows.specs.Tables.{Words64, table-padded}
 use Rattle.acceptance.specs.Stages.{thenRefused, file-then, functionPasses}
 use Rattle.acceptance.specs.Survey.{SurveyTables, BlankTables, Surveyed, Accepted, accepted-is, accepted-passes, surveyed-walked}
 use Rattle.acceptance.specs.declared.survey.BlockCounts.{BlockCounts}
-use Rattle.analysis.specs.Live.{Lent}
-
--- A cleared buffer that is long enough is blank.
-pub cleared-blank : (t : List ℕ) (n k : ℕ) → t ≡ replicate n 0 → k ≤ n → Blank k t
-cleared-blank t n k e l =
-    let long : length t ≡ n = ap length e ∙ length-replicate {A = ℕ} n 0 in
-    (omega arith, e ∙ ap (λ (m : ℕ). replicate {A = ℕ} m 0) (sym long))
+use Rattle.analysis.specs.Live.{Lent, cleared-blank}
 
 -- A file lets a call pass if what stands behind its own refusals does.
 pub file-passes : (v : Verdict) (r : Refusal) → T (isAccepted (thenRefused v r)) → T (isAccepted v)

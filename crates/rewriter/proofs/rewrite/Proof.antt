@@ -6,8 +6,8 @@ use lib.ListN.{length}
 use Rattle.rules.specs.Services.{rewritingAnswer, rewritingOutput}
 use Rattle.acceptance.specs.Stages.{said-no, said-yes}
 use Rattle.acceptance.specs.Survey.{blank-tables}
-use Rattle.services.proofs.ListAnswers.{surveyed-indexed}
-use Rattle.services.proofs.LiveAnswers.{cleared-blank}
+use Rattle.analysis.specs.Live.{surveyed-indexed}
+use Rattle.analysis.specs.Live.{cleared-blank}
 use Rattle.rewriter.proofs.RewriteAnswers.{pointer-refused, rewriting-refused}
 use Rattle.rewriter.proofs.rewrite.Statement.{statement}
 use Rattle.rewriter.proofs.rewrite.Tie as tie

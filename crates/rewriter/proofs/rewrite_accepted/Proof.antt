@@ -11,8 +11,8 @@ use Rattle.rules.specs.Liveness.{isSpilled}
 use Rattle.fixpoint.specs.Finding.{update-here}
 use Rattle.graph.specs.Zeros.{zeros-zeros}
 use Rattle.rows.specs.Rows.{rows}
-use Rattle.rewriting.specs.Tables.{list-tables}
-use Rattle.services.proofs.ListAnswers.{lent-own}
+use Rattle.analysis.specs.Tables.{list-tables}
+use Rattle.analysis.specs.Live.{lent-own}
 use Rattle.rewriter.proofs.rewrite_accepted.Statement.{statement}
 use Rattle.rewriter.proofs.rewrite_accepted.Tie as tie
 

@@ -1,6 +1,7 @@
 -- `services::list::list` meets its contract.
-use Rattle.services.proofs.LiveAnswers.{cleared-blank}
-use Rattle.services.proofs.ListAnswers.{file-refused, file-uncounted, surveyed-indexed}
+use Rattle.analysis.specs.Live.{cleared-blank}
+use Rattle.analysis.specs.Live.{surveyed-indexed}
+use Rattle.services.proofs.ListAnswers.{file-refused, file-uncounted}
 use Rattle.acceptance.specs.Survey.{blank-tables}
 use Rattle.acceptance.specs.Stages.{said-no, said-yes}
 use Rattle.rules.specs.Services.{listAnswer, listWords}

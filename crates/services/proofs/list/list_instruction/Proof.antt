@@ -1,6 +1,7 @@
 -- `services::list::list_instruction` meets its contract.
-use Rattle.rewriting.specs.Tables.{index-tables, list-tables}
-use Rattle.services.proofs.ListAnswers.{lent-own, row-there, asked-ascending, asked-none, asked-some, no-list, row-list}
+use Rattle.analysis.specs.Tables.{index-tables, list-tables}
+use Rattle.analysis.specs.Live.{lent-own}
+use Rattle.services.proofs.ListAnswers.{row-there, asked-ascending, asked-none, asked-some, no-list, row-list}
 use Rattle.listing.specs.Ascending.{ascending}
 use Rattle.graph.specs.Zeros.{zeros-zeros}
 use Rattle.rules.specs.Lists.{NumberSet}
