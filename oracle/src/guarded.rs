@@ -42,14 +42,15 @@ impl Pages {
         let mapped = unsafe { mmap(ptr::null_mut(), room + 2 * PAGE, NOTHING, PRIVATE_AND_ANONYMOUS, -1, 0) };
         assert_ne!(mapped as isize, -1, "the system gives no memory");
         let pages = Pages { mapped: mapped.cast(), room };
-        pages.protect(READ_AND_WRITE);
+        pages.protect(bytes, READ_AND_WRITE);
         pages
     }
 
-    /// Says what may be done between the guard pages.
-    fn protect(&self, protection: c_int) {
+    /// Says what may be done with the pages that hold the last so many bytes and their canary.
+    fn protect(&self, bytes: usize, protection: c_int) {
+        let part = (bytes + CANARIES).next_multiple_of(PAGE);
         // SAFETY: these pages are this value's own, and no reference to them lives here.
-        let said = unsafe { mprotect(self.mapped.add(PAGE).cast(), self.room, protection) };
+        let said = unsafe { mprotect(self.mapped.add(PAGE + self.room - part).cast(), part, protection) };
         assert_eq!(said, 0, "the system does not protect the pages");
     }
 
@@ -83,10 +84,10 @@ impl Pages {
     fn show<R>(&mut self, held: &[u8], call: impl FnOnce(&[u8]) -> R) -> R {
         let (_, part) = self.copy(held);
         let part = ptr::from_ref(part);
-        self.protect(READ);
+        self.protect(held.len(), READ);
         // SAFETY: the copy is set, may be read, and is not touched before it may be written again.
         let answer = call(unsafe { &*part });
-        self.protect(READ_AND_WRITE);
+        self.protect(held.len(), READ_AND_WRITE);
         answer
     }
 }
