@@ -1,0 +1,5 @@
+pub mod Again
+pub mod Local
+pub mod LocalArray
+pub mod Entry
+pub mod Tests
