@@ -4,6 +4,7 @@ ghost use Rattle.holders.specs.Table.{Replayable, holdersAfter};
 use crate::Holder;
 use crate::changes::change;
 use crate::changes::change_at;
+use rules::LARGEST_VALUES;
 
 // All steps, one after the other, each where the table stands.
 pub fn replay<'a, 't>(
@@ -22,4 +23,19 @@ pub fn replay<'a, 't>(
         change(table, c);
         i += 1;
     }
+}
+
+// The same over a table by value, so that callers are proved without a walk: the table is lent here, once for all steps.
+pub fn replayed<'a>(
+    s: &'a [u8],
+    steps: &'a [u32],
+    places: &'a [u32],
+    count: usize,
+    mut table: [Holder; LARGEST_VALUES],
+) -> [Holder; LARGEST_VALUES]
+    requires { ⌜ Replayable (now s) (now steps) (now places) count table ⌝ }
+    ensures { λ r. ⌜ r ≡ holdersAfter (now (s .entry)) (now (steps .entry)) (now (places .entry)) count table ⌝ }
+{
+    replay(s, steps, places, count, &mut table);
+    table
 }
