@@ -30,7 +30,7 @@ use Rattle.planner.specs.FirstNumbers.{NumberedTo, numbered-firsts}
 use Rattle.planner.specs.Functions.{PlanGiven, FunctionPlanned}
 use Rattle.planner.specs.Functions.{PlanLent as LentToPlanner}
 use Rattle.layout.specs.Whole.{PlanTables}
-use Rattle.stackslots.specs.Holders.{Lent, Replayed}
+use Rattle.stackslots.specs.Tables.{Lent, Replayed}
 use Rattle.stackslots.specs.Planned.{planned-fitting}
 use Rattle.acceptance.specs.Survey.{accepted-is}
 use Rattle.rewriting.specs.declared.Found.{Found}
