@@ -1,5 +1,1 @@
-pub mod Again
-pub mod Local
-pub mod LocalArray
-pub mod Entry
-pub mod Tests
+pub mod Walks

@@ -16,9 +16,13 @@ use Rattle.holders.specs.declared.Change.{Change}
 abbrev pub nobody : Holder
 nobody = record { size = 0; owner = 0; held = false }
 
--- a value of a size takes the slot; a slot keeps the size that it has
+-- a new slot gets the size of its value, and keeps it
+abbrev pub sizeTaken : Holder → ℕ → ℕ
+sizeTaken h size = cond (eqb (h .size) 0) size (h .size)
+
+-- a value of a size takes the slot
 abbrev pub takenBy : Holder → ℕ → ℕ → Holder
-takenBy h owner size = record { size = cond (eqb (h .size) 0) size (h .size); owner = owner; held = true }
+takenBy h value size = record { size = sizeTaken h size; owner = value; held = true }
 
 -- a slot is given back, and still tells who had it
 abbrev pub givenBack : Holder → Holder

@@ -2,23 +2,27 @@
 ghost use mathlib.Core.Path.{_≡_};
 ghost use Prim.Native.Nat.{_<_};
 ghost use lib.ListN.{length, set, getD};
-ghost use Rattle.holders.specs.Table.{nobody, takenBy, givenBack};
+ghost use Rattle.holders.specs.Table.{nobody, sizeTaken, takenBy, givenBack};
 use crate::Holder;
 
-// A value takes a slot. A slot that is new gets the value's size, and keeps it.
-pub fn taken(h: Holder, owner: u32, size: u32) -> Holder
-    ensures { λ r. ⌜ r ≡ takenBy h owner size ⌝ }
+// The size of a slot that a value takes: a new slot gets the value's, and keeps it.
+fn size_taken(h: Holder, size: u32) -> u32
+    ensures { λ r. ⌜ r ≡ sizeTaken h size ⌝ }
 {
     if h.size == 0 {
-        return Holder {
-            size,
-            owner,
-            held: true,
-        };
+        return size;
     }
+    h.size
+}
+
+// A value takes a slot.
+pub fn taken(h: Holder, value: u32, size: u32) -> Holder
+    ensures { λ r. ⌜ r ≡ takenBy h value size ⌝ }
+{
+    let made = size_taken(h, size);
     Holder {
-        size: h.size,
-        owner,
+        size: made,
+        owner: value,
         held: true,
     }
 }
@@ -35,11 +39,11 @@ pub fn given(h: Holder) -> Holder
 }
 
 // A value takes the slot at a place of the lent table.
-pub fn take(table: &mut [Holder], at: usize, owner: u32, size: u32)
+pub fn take(table: &mut [Holder], at: usize, value: u32, size: u32)
     requires { ⌜ at < length (now table) ⌝ }
-    ensures { λ _. ⌜ now (table .exit) ≡ set (now (table .entry)) at (takenBy (getD (now (table .entry)) at nobody) owner size) ⌝ }
+    ensures { λ _. ⌜ now (table .exit) ≡ set (now (table .entry)) at (takenBy (getD (now (table .entry)) at nobody) value size) ⌝ }
 {
-    let h = taken(table[at], owner, size);
+    let h = taken(table[at], value, size);
     table[at] = h;
 }
 

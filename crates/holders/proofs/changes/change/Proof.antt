@@ -42,8 +42,7 @@ use denote.Signature.{plain}
 use Rattle.holders.specs.declared.Holder.{Holder}
 use Rattle.holders.specs.declared.Change.{Change}
 use Rattle.holders.specs.Table.{takenBy, givenBack, nobody, changed, Reaches}
-use Rattle.holders.proofs.Entry.{R}
-use Rattle.holders.proofs.Tests.{unless, picks, leaves, first-or, second-or}
+use Rattle.holders.proofs.Walks.{R, unless, picks, leaves, first-or, second-or}
 use Rattle.holders.proofs.Change as D
 use Rattle.holders.proofs.Change.Laws as D′
 use Rattle.holders.proofs.entries.take as take

@@ -42,7 +42,7 @@ use denote.Exit.{yes}
 use denote.Signature.{plain}
 use Rattle.holders.specs.declared.Holder.{Holder}
 use Rattle.holders.specs.Table.{takenBy, nobody}
-use Rattle.holders.proofs.Entry.{R, mach, entryVals, entry-tells, entry-lawful, entry-byte}
+use Rattle.holders.proofs.Walks.{R, mach, entryVals, entry-tells, entry-lawful, entry-byte}
 use Rattle.holders.proofs.Holder.Laws as T′
 use Rattle.holders.proofs.entries.taken as core
 use Rattle.holders.proofs.entries.taken.Symbol as core-def

@@ -33,8 +33,8 @@ use denote.Plain.{uint-makes, uint-vals, uint-tells, nothing-lawful}
 use denote.Builtin.{u8, u32, usize, unit}
 use denote.Memory.{pointee}
 use denote.Ref.{RefT, now}
-use denote.Slice.{sliceTy, sliceVal, MutSlice, ShrSlice, Room, slice-vals, mut-slice-tells, shr-slice-tells, shr-slice-copy}
-use denote.Steps.{only, owned, peeks, heard, nothing}
+use denote.Slice.{sliceTy, sliceVal, MutSlice, ShrSlice, Room, slice-vals, mut-slice-tells, shr-slice-tells}
+use denote.Steps.{owned, peeks, heard, nothing}
 use denote.Struct.Laws as LL
 use denote.Triple.Entry.{onEntry}
 use denote.Triple.Spec.{Meets, tripleOf}
@@ -49,9 +49,7 @@ use Rattle.holders.specs.declared.Holder.{Holder}
 use Rattle.holders.specs.declared.Change.{Change}
 use Rattle.holders.specs.Table.{changed, Reaches, changeAt, holdersAfter, Replayable}
 use Rattle.holders.specs.Replays.{length-after, step-reaches}
-use Rattle.holders.proofs.Again.{LentAgain, lends-counted, comes-counted}
-use Rattle.holders.proofs.Entry.{R}
-use Rattle.holders.proofs.Tests.{turns-while}
+use Rattle.holders.proofs.Walks.{R, turns-while, Kept, lends-again, comes-back, Numbers, numbersVal as val, Shared as SharedBy, shared-twice}
 use Rattle.holders.proofs.Change as D
 use Rattle.holders.proofs.Change.Laws as D′
 use Rattle.holders.proofs.changes.change_at as leaf
@@ -70,13 +68,6 @@ use Rattle.holders.proofs.table.replay.Code.Mir as pieces
 
 abbrev S : RattleType
 S = D.the-row
-
--- a list of numbers that is lent to be read
-abbrev Numbers : Type 0
-Numbers = RefT (List ℕ)
-
-abbrev val : {X : Type 0} → RefT (List X) → Val
-val x = sliceVal (x .ptr) (length (now x))
 
 abbrev stayed : Stays (f.ended .signature .params) (f.ended .kept)
 stayed = (stay-none-slice (0 ∷ []) tt (plain (λ _. u8)) yes, (stay-none-slice (0 ∷ []) tt (plain (λ _. u32)) yes, (stay-none-slice (0 ∷ []) tt (plain (λ _. u32)) yes, (stay-none (λ _. usize) yes, (stay-slice (1 ∷ []) tt (plain (λ _. R)), tt)))))
@@ -124,17 +115,8 @@ module _ {M : Type 1} (𝓤 : URA M) (H : Heap 𝓤) (A : Atoms 𝓤) (W : Given
   Post = walkOf 𝓤 H A f.ended stayed (f.clauses 𝓤 H A mem run) .post bound
 
   -- what the lists of numbers own
-  abbrev Bytes : Fml
-  Bytes = ShrSlice (named 0) κ u8 .own bytes (val bytes ∷ [])
-
-  abbrev Steps : Fml
-  Steps = ShrSlice (named 0) κ u32 .own steps (val steps ∷ [])
-
-  abbrev Places : Fml
-  Places = ShrSlice (named 0) κ u32 .own places (val places ∷ [])
-
   abbrev Shared : Fml
-  Shared = fsep Bytes (fsep Steps Places)
+  Shared = SharedBy κ bytes steps places
 
   -- what the leaf's triple binds outside, and that the caller has what it asks, and keeps the lists
   abbrev to-leaf : ℕ → Leaf 𝓤 H A mem run .Ghost
@@ -147,12 +129,9 @@ module _ {M : Type 1} (𝓤 : URA M) (H : Heap 𝓤) (A : Atoms 𝓤) (W : Given
 
   goes-leaf : (i : ℕ) → i < n → ent 𝓤 (sep 𝓤 (A .lft κ q) (sem 𝓤 H A Shared)) (sep 𝓤 (Leaf 𝓤 H A mem run .pre (to-leaf i)) (sem 𝓤 H A Shared))
   goes-leaf i less =
-      qed W (‵ (flft κ q) ∷ ‵ Shared ∷ []) ∵ move ! (1 ∷ []) $ fsplit ! $ use1 W (‵ Bytes ⊛ ‵ Bytes) (shr-slice-copy 𝓤 H A W (named 0) κ u8 .twice bytes (val bytes ∷ [])) $ split ! $
-      move ! (2 ∷ []) $ fsplit ! $ use1 W (‵ Steps ⊛ ‵ Steps) (shr-slice-copy 𝓤 H A W (named 0) κ u32 .twice steps (val steps ∷ [])) $ split ! $
-      move ! (2 ∷ []) $ use1 W (‵ Places ⊛ ‵ Places) (shr-slice-copy 𝓤 H A W (named 0) κ u32 .twice places (val places ∷ [])) $ split ! $
-      -- [places; places; steps; steps; bytes; bytes; the token]
-      move ! (2 ∷ 0 ∷ []) $ fjoin ! $ move ! (3 ∷ 0 ∷ []) $ fjoin ! $
-      nothing ! $ owned ! usize (Is usize) (uint-makes 𝓤 H A W w64) i _ (refl, lt-of-le-of-lt (omega (arith, less)) n-fits) $ fjoin ! $ move ! (2 ∷ 0 ∷ []) $ fjoin ! $ move ! (2 ∷ 0 ∷ []) $ fjoin ! $ move ! (2 ∷ 0 ∷ []) $ fjoin ! $
+      qed W (‵ (flft κ q) ∷ ‵ Shared ∷ []) ∵ move ! (1 ∷ []) $ use1 W (‵ Shared ⊛ ‵ Shared) (shared-twice κ bytes steps places 𝓤 H A W) $ split ! $ fsplit ! $ move ! (1 ∷ []) $ fsplit ! $
+      -- [steps; places; bytes; what is kept; the token]
+      nothing ! $ owned ! usize (Is usize) (uint-makes 𝓤 H A W w64) i _ (refl, lt-of-le-of-lt (omega (arith, less)) n-fits) $ fjoin ! $ move ! (2 ∷ 0 ∷ []) $ fjoin ! $ move ! (1 ∷ 0 ∷ []) $ fjoin ! $ move ! (1 ∷ 0 ∷ []) $ fjoin ! $
       -- [what the leaf is passed; what is kept; the token]
       move ! (2 ∷ []) $ nothing ! $ move ! (1 ∷ 0 ∷ []) $ join ! $ move ! (0 ∷ 1 ∷ []) $ use2 W (raw (Leaf 𝓤 H A mem run .pre (to-leaf i))) (asked i less) $ frame ! $ done !
 
@@ -253,8 +232,8 @@ module _ {M : Type 1} (𝓤 : URA M) (H : Heap 𝓤) (A : Atoms 𝓤) (W : Given
         assigns ! (agg ! (and-then ! (load ! (from ! (stop !)) (look ! 7 refl)) (and-then ! (load ! (from ! (fld ! refl (stop !))) (look-in ! 17 (sub ! 1 refl (whole !)))) (no-more !)))) (from ! (stop !)) (init ! 5 refl (tt, (tt, (record { fits = room .0 }, tt)))) $
         -- the table is lent again for a lifetime ν of the call, and changed
         lft-new ! tt (λ ν. move ! (4 ∷ 5 ∷ []) $
-        use2 W (later (some (λ (δ : GName). ‵ (MutSlice (named 0) (ν ∷ []) R .own (x δ (after (i .0))) (s ∷ [])) ⊛ ‵ (LentAgain R κ′ (ν ∷ []) q′ γ b o δ (after (i .0))))))
-        (lends-counted R κ′ (ν ∷ []) q′ γ b o 𝓤 H A W (named 1) (named 0) (after (i .0)) (length table) (after-long (i .0))) $ await ! tt $ pick ! (λ δ. split ! $
+        use2 W (later (some (λ (δ : GName). ‵ (MutSlice (named 0) (ν ∷ []) R .own (x δ (after (i .0))) (s ∷ [])) ⊛ ‵ (Kept 𝓤 H A W κ′ (ν ∷ []) q′ γ b o (length table) (named 1) δ (after (i .0))))))
+        (lends-again 𝓤 H A W κ′ (ν ∷ []) q′ γ b o (length table) (named 1) (after (i .0)) (after-long (i .0))) $ await ! tt $ pick ! (λ δ. split ! $
         move ! (2 ∷ 0 ∷ 3 ∷ []) $ use3 W (raw (Changes 𝓤 H A mem run .pre (to-change ν δ (after (i .0)) r v))) (goes-change ν δ (i .0) r v (ltb→lt (i .0) n less) e) $
         -- [the precondition; what is kept; the token; the lists; _11; …]
         calls-at ! (fmOf 𝓤 H (W .laws) 𝓣) (Changes 𝓤 H A mem run) known-change (to-change ν δ (after (i .0)) r v) (and-then ! (load ! (from ! (stop !)) (look ! 4 refl)) (and-then ! (load ! (from ! (stop !)) (look ! 12 refl)) (no-more !))) (λ w.
@@ -264,7 +243,7 @@ module _ {M : Type 1} (𝓤 : URA M) (H : Heap 𝓤) (A : Atoms 𝓤) (W : Given
         move ! (2 ∷ []) $ split ! $ move ! (1 ∷ []) $ peeks ! unit (Is unit) (shows 𝓤 H A unit) u (w ∷ []) (λ is′. drop ! $
         land ! (from ! (stop !)) (init ! 10 refl (nothing-lawful 𝓤 H A W .typed u _ is′ .0)) $
         split ! $ lft-end ! tt $ move ! (0 ∷ 4 ∷ 2 ∷ []) $
-        use3 W (later (‵ (MutSlice (named 1) κ′ R .own (x γ (zs .0)) (s ∷ [])) ⊛ ‵ (flft κ′ q′))) (comes-counted R κ′ (ν ∷ []) q′ γ b o 𝓤 H A W (named 1) (named 0) (after (i .0)) (length table) (after-long (i .0)) δ (zs .0) room l) $ await ! tt $ split ! $
+        use3 W (later (‵ (MutSlice (named 1) κ′ R .own (x γ (zs .0)) (s ∷ [])) ⊛ ‵ (flft κ′ q′))) (comes-back 𝓤 H A W κ′ (ν ∷ []) q′ γ b o (length table) (named 1) (after (i .0)) (after-long (i .0)) δ (zs .0) room l) $ await ! tt $ split ! $
         move ! (4 ∷ []) $ split ! $
         -- [the token; true; the table; its token; true; true; the lists; _11; …]
         assigns-last ! (bin ! (load ! (from ! (stop !)) (look ! 17 refl)) (lit ! tt) (record { fits = next-fits i less })) (from ! (stop !)) (store ! 17 refl (tt, record { fits = next-fits i less })) $

@@ -30,7 +30,7 @@ use denote.Plain.{uint-makes, uint-vals, uint-tells, nothing-lawful}
 use denote.Builtin.{u8, u32, usize, unit}
 use denote.Lend.{Held}
 use denote.Ref.{RefT, now}
-use denote.Slice.{sliceVal, MutSlice, ShrSlice, Room, slice-vals, shr-slice-tells, shr-slice-copy}
+use denote.Slice.{sliceVal, MutSlice, ShrSlice, Room, slice-vals, shr-slice-tells}
 use denote.Steps.{only, owned, peeks, heard, nothing}
 use denote.Struct.Laws as LL
 use denote.Triple.Entry.{onEntry}
@@ -44,9 +44,7 @@ use denote.Exit.{yes}
 use denote.Signature.{plain}
 use Rattle.holders.specs.declared.Holder.{Holder}
 use Rattle.holders.specs.Table.{holdersAfter, Replayable}
-use Rattle.holders.proofs.Local.{local-in, local-out}
-use Rattle.holders.proofs.LocalArray.{lends-array, array-back}
-use Rattle.holders.proofs.Entry.{R, entryVals, entry-tells, entry-lawful}
+use Rattle.holders.proofs.Walks.{R, entryVals, entry-tells, entry-lawful, array-in, lends-array, array-back, array-out, Numbers, numbersVal as val, Shared as SharedBy, shared-twice}
 use Rattle.holders.proofs.Holder as T
 use Rattle.holders.proofs.Holder.Laws as T′
 use Rattle.holders.proofs.table.replay as core
@@ -73,12 +71,6 @@ tellsA = array-tells R entryVals entry-tells 512
 
 has-room : Room R 512
 has-room = (lit< tt, lit< tt)
-
-abbrev Numbers : Type 0
-Numbers = RefT (List ℕ)
-
-abbrev val : Numbers → Val
-val x = sliceVal (x .ptr) (length (now x))
 
 abbrev stayed : Stays (f.ended .signature .params) (f.ended .kept)
 stayed = (stay-none-slice (0 ∷ []) tt (plain (λ _. u8)) yes, (stay-none-slice (0 ∷ []) tt (plain (λ _. u32)) yes, (stay-none-slice (0 ∷ []) tt (plain (λ _. u32)) yes, (stay-none (λ _. usize) yes, (stay-none (λ _. AR) yes, tt)))))
@@ -110,18 +102,9 @@ module _ {M : Type 1} (𝓤 : URA M) (H : Heap 𝓤) (A : Atoms 𝓤) (W : Given
   makesA : Makes 𝓤 H A AR (Is AR)
   makesA = array-makes 𝓤 H A W R (LL.makes T.the-type T′.the-plain 𝓤 H A) 512
 
-  -- what the lists of numbers own
-  abbrev Bytes : Fml
-  Bytes = ShrSlice (named 0) κ u8 .own bytes (val bytes ∷ [])
-
-  abbrev Steps : Fml
-  Steps = ShrSlice (named 0) κ u32 .own steps (val steps ∷ [])
-
-  abbrev Places : Fml
-  Places = ShrSlice (named 0) κ u32 .own places (val places ∷ [])
-
+  -- what the lists of numbers own, and all parameters
   abbrev Shared : Fml
-  Shared = fsep Bytes (fsep Steps Places)
+  Shared = SharedBy κ bytes steps places
 
   abbrev Owned : Fml
   Owned = owns (ShrSlice (named 0) κ u8 ∷ ShrSlice (named 0) κ u32 ∷ ShrSlice (named 0) κ u32 ∷ usize ∷ AR ∷ []) a vals
@@ -157,12 +140,9 @@ module _ {M : Type 1} (𝓤 : URA M) (H : Heap 𝓤) (A : Atoms 𝓤) (W : Given
   goes-core l ν δ =
       qed W ((‵ (flft κ q) ⊛ ‵ (flft (ν ∷ []) fullShare)) ∷ ‵ (MutSlice (named 1) (ν ∷ []) R .own (x l δ) (s l ∷ [])) ∷ ‵ Owned ∷ []) ∵ split ! $ move ! (3 ∷ []) $ fsplit ! $ move ! (1 ∷ []) $ fsplit ! $ move ! (1 ∷ []) $ fsplit ! $
       -- [places; the rest; steps; bytes; the tokens; the table]
-      use1 W (‵ Places ⊛ ‵ Places) (shr-slice-copy 𝓤 H A W (named 0) κ u32 .twice places (val places ∷ [])) $ split ! $
-      move ! (3 ∷ []) $ use1 W (‵ Steps ⊛ ‵ Steps) (shr-slice-copy 𝓤 H A W (named 0) κ u32 .twice steps (val steps ∷ [])) $ split ! $
-      move ! (5 ∷ []) $ use1 W (‵ Bytes ⊛ ‵ Bytes) (shr-slice-copy 𝓤 H A W (named 0) κ u8 .twice bytes (val bytes ∷ [])) $ split ! $
-      move ! (2 ∷ 4 ∷ []) $ fjoin ! $ move ! (1 ∷ 0 ∷ []) $ fjoin ! $
-      -- [what is kept; bytes; steps; places; the rest; the tokens; the table]
-      nothing ! $ move ! (8 ∷ 0 ∷ []) $ fjoin ! $ owned ! usize (Is usize) (uint-makes 𝓤 H A W w64) n _ (refl, n-fits) $ fjoin ! $ move ! (4 ∷ 0 ∷ []) $ fjoin ! $ move ! (3 ∷ 0 ∷ []) $ fjoin ! $ move ! (2 ∷ 0 ∷ []) $ fjoin ! $
+      move ! (2 ∷ 0 ∷ []) $ fjoin ! $ move ! (2 ∷ 0 ∷ []) $ fjoin ! $ use1 W (‵ Shared ⊛ ‵ Shared) (shared-twice κ bytes steps places 𝓤 H A W) $ split ! $ fsplit ! $ move ! (1 ∷ []) $ fsplit ! $
+      -- [steps; places; bytes; what is kept; the rest; the tokens; the table]
+      nothing ! $ move ! (8 ∷ 0 ∷ []) $ fjoin ! $ owned ! usize (Is usize) (uint-makes 𝓤 H A W w64) n _ (refl, n-fits) $ fjoin ! $ move ! (2 ∷ 0 ∷ []) $ fjoin ! $ move ! (1 ∷ 0 ∷ []) $ fjoin ! $ move ! (1 ∷ 0 ∷ []) $ fjoin ! $
       nothing ! $ move ! (5 ∷ 0 ∷ []) $ join ! $ move ! (4 ∷ 0 ∷ []) $ join ! $ move ! (0 ∷ 1 ∷ []) $ use2 W (raw (Core 𝓤 H A at-mem run .pre (to-core l ν δ))) (asked l ν δ) $ frame ! $ keep ! (0 ∷ []) $ done !
 
   exits : (zs : List Holder) → zs ≡ holdersAfter (now bytes) (now steps) (now places) n ys → ent 𝓤 (⋆ 𝓤 H A (‵ (AR .own zs (mach zs ∷ [])) ∷ ‵ (flft κ q) ∷ ‵ Shared ∷ [])) (Post (mach zs))
@@ -184,9 +164,9 @@ module _ {M : Type 1} (𝓤 : URA M) (H : Heap 𝓤) (A : Atoms 𝓤) (W : Given
         assigns ! (addr ! (from ! (stop !))) (from ! (stop !)) (init ! 2 refl (tt, tt)) $
         assigns ! (agg ! (and-then ! (load ! (from ! (stop !)) (look ! 2 refl)) (and-then ! (lit ! tt) (no-more !)))) (from ! (stop !)) (init ! 0 refl (tt, (tt, (record { fits = lit< tt }, tt)))) $
         -- the local is lent for a lifetime ν of the call
-        move ! (6 ∷ []) $ owned ! AR (Is AR) makesA ys _ g $ move ! (1 ∷ 0 ∷ []) $ use2 W (‵ (partAt AR fullShare ys l₆ 0)) (local-in 𝓤 H A W (tyArray T′.mir 512) (AR .own) ys (mach ys) l₆ 0) $
+        move ! (6 ∷ []) $ owned ! AR (Is AR) makesA ys _ g $ move ! (1 ∷ 0 ∷ []) $ use2 W (‵ (partAt AR fullShare ys l₆ 0)) (array-in 𝓤 H A W 512 l₆ 0 (tyArray T′.mir 512) (AR .own) ys (mach ys)) $
         lft-new ! tt (λ ν. move ! (1 ∷ []) $
-        use1 W (later (some (λ (δ : GName). ‵ (MutSlice (named 1) (ν ∷ []) R .own (x l₆ δ) (s l₆ ∷ [])) ⊛ ‵ (flent (ν ∷ []) (Held R 512 l₆ 0 δ))))) (lends-array 𝓤 H A W R (ν ∷ []) 512 l₆ 0 (named 1) tt ys has-room) $ await ! tt $ pick ! (λ δ. split ! $
+        use1 W (later (some (λ (δ : GName). ‵ (MutSlice (named 1) (ν ∷ []) R .own (x l₆ δ) (s l₆ ∷ [])) ⊛ ‵ (flent (ν ∷ []) (Held R 512 l₆ 0 δ))))) (lends-array 𝓤 H A W 512 l₆ 0 (ν ∷ []) (named 1) tt ys has-room) $ await ! tt $ pick ! (λ δ. split ! $
         -- [the table; the lender's part; ν's token; _9; …; _7; …; what frees _6; _5; …; _0; …; the token; what the parameters own]
         move ! (22 ∷ []) $ split ! $ move ! (0 ∷ 4 ∷ []) $ join ! $ move ! (0 ∷ 2 ∷ 23 ∷ []) $ use3 W (raw (Core 𝓤 H A at-mem run .pre (to-core l₆ ν δ)) ⊛ ‵ Shared) (goes-core l₆ ν δ) $ split ! $
         -- [the precondition; the lists; true; the lender's part; _9; …]
@@ -201,8 +181,8 @@ module _ {M : Type 1} (𝓤 : URA M) (H : Heap 𝓤) (A : Atoms 𝓤) (W : Given
         land ! (from ! (stop !)) (init ! 10 refl (nothing-lawful 𝓤 H A W .typed u _ is .0)) $
         -- the lifetime is ended, and the local is taken back at the last list
         split ! $ move ! (1 ∷ []) $ split ! $ lft-end ! tt $ move ! (0 ∷ 7 ∷ 3 ∷ []) $
-        use3 W (later (‵ (partAt AR fullShare (zs .1 .1 .1 .1 .0) l₆ 0))) (array-back 𝓤 H A W R (ν ∷ []) 512 l₆ 0 δ (zs .1 .1 .1 .1 .0)) $ await ! tt $
-        local-out ! AR (Is AR) (shows 𝓤 H A AR) valsA tellsA (zs .1 .1 .1 .1 .0) l₆ 0 $
+        use3 W (later (‵ (partAt AR fullShare (zs .1 .1 .1 .1 .0) l₆ 0))) (array-back 𝓤 H A W 512 l₆ 0 (ν ∷ []) δ (zs .1 .1 .1 .1 .0)) $ await ! tt $
+        array-out ! AR (Is AR) (shows 𝓤 H A AR) valsA tellsA (zs .1 .1 .1 .1 .0) l₆ 0 $
         use1 W (‵ (fat fullShare (tyArray T′.mir 512) l₆ 0 (mach (zs .1 .1 .1 .1 .0)))) (W .laws .raw-at fullShare (tyArray T′.mir 512) l₆ 0 (mach (zs .1 .1 .1 .1 .0))) $
         move ! (1 ∷ []) $ peeks ! AR (Is AR) (shows 𝓤 H A AR) (zs .1 .1 .1 .1 .0) (mach (zs .1 .1 .1 .1 .0) ∷ []) (λ is′.
         -- [what the last list owns; _6; true; the token; true; the lists; true; _9; …; _7; …; what frees _6; _5; …]
