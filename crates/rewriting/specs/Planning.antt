@@ -30,7 +30,7 @@ use Rattle.planner.specs.FirstNumbers.{NumberedTo, numbered-firsts}
 use Rattle.planner.specs.Functions.{PlanGiven, FunctionPlanned}
 use Rattle.planner.specs.Functions.{PlanLent as LentToPlanner}
 use Rattle.layout.specs.Whole.{PlanTables}
-use Rattle.stackslots.specs.Holders.{Lent, Replayed}
+use Rattle.stackslots.specs.Tables.{Lent, Replayed}
 use Rattle.stackslots.specs.Planned.{planned-fitting}
 use Rattle.acceptance.specs.Survey.{accepted-is}
 use Rattle.rewriting.specs.declared.Found.{Found}
@@ -143,18 +143,23 @@ module _ {s places order outs lists′ spilled : List ℕ} {found : Found} (h : 
 
     -- REPLAYING can begin
     pub replay-lent :
-        (older tags sizes : List ℕ) → length (t′ .steps) ≤ length older → Zeros tags → rowValues ≤ length tags → rowValues ≤ length sizes
-        → Lent s (t′ .steps) (t′ .progress .steps) (replicate 5 0) older tags sizes
-    replay-lent older tags sizes o blank l m =
+        (tags sizes : List ℕ) → length (t′ .steps) ≤ largestValues + largestRecords → Zeros tags → rowValues ≤ length tags → rowValues ≤ length sizes
+        → Lent s (t′ .steps) (t′ .progress .steps) (replicate 5 0) (replicate (largestValues + largestRecords) 0) tags
+        × (t′ .progress .steps ≤ largestValues + largestRecords) × (rowValues ≤ length sizes)
+    replay-lent tags sizes short blank l m =
         let tree = accepted-tree s (h .accepted) in
-        record {
-          inOrder = is-true (ordered 0 (records s)) in-order;
-          inSteps = steps-noted;
-          room = record { heads = omega arith; older = omega (arith, steps-noted, o); tags = l; sizes = m };
-          emptyHeads = zeros-zeros 5;
-          emptyTags = blank;
-          fitting = planned-fitting f (tree .in-file) (tree .some-block) pointer (t′ .steps) (t′ .progress .steps) slots-replayed (h .sized) values-small;
-        }
+        let older-long = length-replicate {A = ℕ} (largestValues + largestRecords) 0 in (
+          record {
+            inOrder = is-true (ordered 0 (records s)) in-order;
+            inSteps = steps-noted;
+            room = record { heads = omega arith; older = omega (arith, steps-noted, short, older-long); tags = l };
+            emptyHeads = zeros-zeros 5;
+            emptyTags = blank;
+            fitting = planned-fitting f (tree .in-file) (tree .some-block) pointer (t′ .steps) (t′ .progress .steps) slots-replayed (h .sized) values-small;
+          },
+          omega (arith, steps-noted, short),
+          m,
+        )
 
     -- THE WHOLE PLAN
     pub records-planned :
@@ -175,7 +180,7 @@ module _ {s places order outs lists′ spilled : List ℕ} {found : Found} (h : 
                 plans = a .blocks;
               };
           made-room = omega (arith, a .good .roomSizes);
-          slots-room = omega (arith, g .few, g .long .sizes, room);
+          slots-room = omega (arith, g .few, g .sizesLong, room);
           slots-few = g .few;
           blocks-planned = ap (λ (p : Plan). p .blocks) (a .plan);
         }

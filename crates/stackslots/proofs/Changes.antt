@@ -3,11 +3,11 @@ use Prim.Native.Nat.{ℕ, suc, _+_, _-_, _<_}
 use mathlib.Core.Path.{_≡_, refl, sym, ap, ap₂, subst, _∙_}
 use mathlib.Core.Bool.{not}
 use mathlib.Core.Option.{Option, none, some}
-use mathlib.Core.List.{List, [], _∷_, _++_}
+use mathlib.Core.List.{List, [], _∷_}
 use native.Mathlib.Omega.{arith}
 use native.Mathlib.Numerals.{add-one}
 use lib.ListN.{length, getD, set, length-append}
-use lib.Seq.{take-suc-set, getD-set-same, getD-set-other}
+use lib.Seq.{getD-set-same, getD-set-other}
 use lib.Dec.{T}
 use Rattle.rules.specs.Lists.{has, isNone, update, NumberSet}
 use Rattle.rules.specs.Records.{slotSizes}
@@ -20,16 +20,15 @@ use Rattle.slots.specs.Classes.{index, bytes}
 use Rattle.slots.specs.declared.SlotSize.{SlotSize}
 use Rattle.rows.specs.Rows.{rowValues}
 use Rattle.numbering.specs.Beside.{made}
-use Rattle.stackslots.specs.Holders.{Holders, holders, valueOf, Freed, Stands, Room}
+use Rattle.stackslots.specs.Tables.{SlotTables, slotTables, valueOf, Freed, Stands, Room}
 use Rattle.stackslots.proofs.Classes.{index-less}
 use Rattle.stackslots.proofs.Lists.{freed-kept, slots-kept, freed-none, class-changed}
 
-module _ {steps : List ℕ} {n : ℕ} {p : StackSlots} {t : Holders} (h : Stands steps n p t) where
+module _ {steps : List ℕ} {n : ℕ} {p : StackSlots} {t : SlotTables} (h : Stands steps n p t) where
   -- a step that changes nothing
   pub stands-on : Stands steps (suc n) p t
   stands-on =
       record {
-        sizes = h .sizes;
         counted = h .counted;
         slots = h .slots;
         free = λ c.
@@ -84,16 +83,13 @@ module _ {steps : List ℕ} {n : ℕ} {p : StackSlots} {t : Holders} (h : Stands
       -- NO SLOT OF THE SIZE IS FREE: a new one.
       pub stands-made :
           getD (t .heads) (index c) 0 ≡ 0
-          → Stands steps n (giveSlot v size p) (holders (t .heads) (t .older) (set (t .tags) v (t .made + 1)) (set (t .sizes) (t .made) size) (t .made + 1))
+          → Stands steps n (giveSlot v size p) (slotTables (t .heads) (t .older) (set (t .tags) v (t .made + 1)) (t .made + 1))
       unfolding giveSlot
       stands-made e =
           let none-free : p .free size ≡ [] = freed-none steps n (t .older) (t .tags) (getD (t .heads) (index c) 0) (p .free size) own e in
           let new : giveSlot v size p ≡ slotFrom v size none [] p = ap₂ (λ (o : Option ℕ) (l : List ℕ). slotFrom v size o l p) no-slot none-free in
           rw (add-one (t .made), new)
           (record {
-            sizes =
-                take-suc-set (t .sizes) (t .made) size (omega (arith, one-left, room .sizes))
-                ∙ ap (λ (xs : List ℕ). xs ++ (size ∷ [])) (h .sizes);
             counted = omega (arith, h .counted, length-append (p .made) (size ∷ []));
             slots = rw (h .counted) (tagged v (length (p .made)) (omega (arith, low, room .tags)));
             free = others (t .made);
@@ -104,15 +100,15 @@ module _ {steps : List ℕ} {n : ℕ} {p : StackSlots} {t : Holders} (h : Stands
       pub stands-taken :
           0 < getD (t .heads) (index c) 0
           → Stands steps n (giveSlot v size p)
-          (holders (set (t .heads) (index c) (getD (t .older) (getD (t .heads) (index c) 0 - 1) 0)) (t .older)
-          (set (t .tags) v (getD (t .tags) (valueOf steps (getD (t .heads) (index c) 0 - 1)) 0)) (t .sizes) (t .made))
+          (slotTables (set (t .heads) (index c) (getD (t .older) (getD (t .heads) (index c) 0 - 1) 0)) (t .older)
+          (set (t .tags) v (getD (t .tags) (valueOf steps (getD (t .heads) (index c) 0 - 1)) 0)) (t .made))
       unfolding giveSlot
       stands-taken some-free = go (p .free size) refl own
         where
           go : (l : List ℕ) → p .free size ≡ l → Freed steps n (t .older) (t .tags) (getD (t .heads) (index c) 0) l
               → Stands steps n (giveSlot v size p)
-              (holders (set (t .heads) (index c) (getD (t .older) (getD (t .heads) (index c) 0 - 1) 0)) (t .older)
-              (set (t .tags) v (getD (t .tags) (valueOf steps (getD (t .heads) (index c) 0 - 1)) 0)) (t .sizes) (t .made))
+              (slotTables (set (t .heads) (index c) (getD (t .older) (getD (t .heads) (index c) 0 - 1) 0)) (t .older)
+              (set (t .tags) v (getD (t .tags) (valueOf steps (getD (t .heads) (index c) 0 - 1)) 0)) (t .made))
           go [] e l = absurd (omega (arith, some-free, l))
           go (slot ∷ rest) e l =
               let node : getD (t .heads) (index c) 0 - 1 ≡ l .0 = omega (arith, l .1) in
@@ -124,7 +120,6 @@ module _ {steps : List ℕ} {n : ℕ} {p : StackSlots} {t : Holders} (h : Stands
               (others slot) in
               rw (node, l .3, new)
               (record {
-                sizes = h .sizes;
                 counted = h .counted;
                 slots = tagged v slot (omega (arith, low, room .tags));
                 free =
@@ -137,7 +132,7 @@ module _ {steps : List ℕ} {n : ℕ} {p : StackSlots} {t : Holders} (h : Stands
     pub stands-freed :
         (slot : ℕ) → n < length (t .older) → valueOf steps n ≡ v → getD (t .tags) v 0 ≡ suc slot
         → Stands steps (suc n) (freeSlot slot size p)
-        (holders (set (t .heads) (index c) (n + 1)) (set (t .older) n (getD (t .heads) (index c) 0)) (t .tags) (t .sizes) (t .made))
+        (slotTables (set (t .heads) (index c) (n + 1)) (set (t .older) n (getD (t .heads) (index c) 0)) (t .tags) (t .made))
     unfolding freeSlot
     stands-freed slot l names e =
         let last = getD (t .heads) (index c) 0 in
@@ -156,7 +151,6 @@ module _ {steps : List ℕ} {n : ℕ} {p : StackSlots} {t : Holders} (h : Stands
         (λ d. kept (getD (t .heads) (index d) 0) (p .free (bytes d)) (h .free d)) in
         rw (add-one n)
         (record {
-          sizes = h .sizes;
           counted = h .counted;
           slots = h .slots;
           free =

@@ -12,7 +12,7 @@ use Rattle.lists.specs.Tests.{neqb→ne}
 use Rattle.fixpoint.specs.Finding.{update-elim}
 use Rattle.slots.specs.Classes.{index, bytes, log2-bytes}
 use Rattle.slots.specs.declared.SlotSize.{SlotSize}
-use Rattle.stackslots.specs.Holders.{valueOf, Freed}
+use Rattle.stackslots.specs.Tables.{valueOf, Freed}
 use Rattle.stackslots.proofs.Classes.{index-sizes}
 
 -- A list is kept where the older nodes are, and the slots of values that have one.

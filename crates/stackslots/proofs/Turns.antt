@@ -22,29 +22,17 @@ use Rattle.slots.specs.Classes.{index, bytes}
 use Rattle.slots.specs.declared.SlotSize.{SlotSize}
 use Rattle.rows.specs.Rows.{rowValues}
 use Rattle.planning.specs.Standing.{stepOf, noted, slotsBy}
-use Rattle.stackslots.specs.Holders.{Holders, holders, valueOf, SameLong, slotsAfter, Turn, Turned}
+use Rattle.stackslots.specs.Tables.{SlotTables, slotTables, valueOf, SameLong, slotsAfter, Turn, Turned}
+use Rattle.stackslots.specs.Stepping.{slots-next}
 use Rattle.stackslots.proofs.Classes.{index-less, class-number}
 use Rattle.stackslots.proofs.Lists.{freed-bound}
 use Rattle.stackslots.proofs.Changes.{stands-on, tag-none, tag-some, given-again, one-left, stands-made, stands-taken, stands-freed}
-
--- one step more is replayed
-noted-next : (steps : List ℕ) (i : ℕ) → i < length steps → noted steps (suc i) ≡ noted steps i ++ (stepOf (getD steps i 0) ∷ [])
-unfolding noted
-noted-next steps i l = rw (take-suc steps i 0 l) (map-append stepOf (take i steps) (getD steps i 0 ∷ []))
-
-slots-next :
-    (f : Function) (steps : List ℕ) (i : ℕ) → i < length steps
-    → slotsBy f steps (suc i) ≡ taken (sizeOf f) (stepOf (getD steps i 0)) (slotsBy f steps i)
-unfolding slotsBy
-slots-next f steps i l =
-    ap (λ (ss : List SlotStep). replayed (sizeOf f) ss noSlots) (noted-next steps i l)
-    ∙ replayed-append (sizeOf f) (noted steps i) (stepOf (getD steps i 0) ∷ []) noSlots
 
 -- a tag that is not 0 is a slot's
 tag-of-slot : (n : ℕ) → 0 < n → n ≡ suc (n - 1)
 tag-of-slot n l = omega arith
 
-module _ (s steps : List ℕ) (i : ℕ) (t : Holders) (h : Turn s steps i t) where
+module _ (s steps : List ℕ) (i : ℕ) (t : SlotTables) (h : Turn s steps i t) where
   abbrev f : Function
   f = functionIn s
 
@@ -61,7 +49,7 @@ module _ (s steps : List ℕ) (i : ℕ) (t : Holders) (h : Turn s steps i t) whe
   Fits = (v < rowValues) × T (has (sizeOf f v) slotSizes)
 
   same-long : SameLong t t
-  same-long = record { heads = refl; older = refl; tags = refl; sizes = refl }
+  same-long = record { heads = refl; older = refl; tags = refl }
 
   -- a value that has a slot then fits
   has-fits : (slot : ℕ) → HasSlot (slotsAfter s steps (suc i)) v slot → Fits
@@ -90,21 +78,20 @@ module _ (s steps : List ℕ) (i : ℕ) (t : Holders) (h : Turn s steps i t) whe
       given-class = class-number (sizeOf f v) (give-fits .1) class (number ∙ ap log2 sized)
 
       -- a new one
-      pub make-room : (v < length (t .tags)) × (t .made < length (t .sizes)) × (t .made < rowValues)
+      pub make-room : (v < length (t .tags)) × (t .made < rowValues)
       make-room =
           let left = one-left (h .stands) (h .room) v (sizeOf f v) (give-fits .0) (give-fits .1) (given-class .0) (given-class .1) bare in
-          (omega (arith, give-fits .0, h .room .tags), omega (arith, left, h .room .sizes), left)
+          (omega (arith, give-fits .0, h .room .tags), left)
 
       pub turned-made :
-          getD (t .heads) class 0 ≡ 0 → (tags′ sizes′ : List ℕ) (made′ : ℕ)
-          → (made′ ≡ t .made + 1) × (tags′ ≡ set (t .tags) v (t .made + 1)) × (sizes′ ≡ set (t .sizes) (t .made) size)
-          → Turned s steps i t (holders (t .heads) (t .older) tags′ sizes′ made′)
-      turned-made empty tags′ sizes′ made′ e =
+          getD (t .heads) class 0 ≡ 0 → (tags′ : List ℕ) (made′ : ℕ) → (made′ ≡ t .made + 1) × (tags′ ≡ set (t .tags) v (t .made + 1))
+          → Turned s steps i t (slotTables (t .heads) (t .older) tags′ made′)
+      turned-made empty tags′ made′ e =
           let none-free : getD (t .heads) (index (given-class .0)) 0 ≡ 0 = ap (λ k. getD (t .heads) k 0) (sym (given-class .2)) ∙ empty in
-          rw (e .0, e .1, e .2, sized)
+          rw (e .0, e .1)
           (record {
             stands = rw give-next (stands-on (stands-made (h .stands) (h .room) v (sizeOf f v) (give-fits .0) (give-fits .1) (given-class .0) (given-class .1) bare none-free));
-            long = record { heads = refl; older = refl; tags = length-set (t .tags) v _; sizes = length-set (t .sizes) (t .made) _ };
+            long = record { heads = refl; older = refl; tags = length-set (t .tags) v _ };
           })
 
       -- the one last freed
@@ -126,13 +113,13 @@ module _ (s steps : List ℕ) (i : ℕ) (t : Holders) (h : Turn s steps i t) whe
             (heads′ tags′ : List ℕ)
             → (heads′ ≡ set (t .heads) class (getD (t .older) (getD (t .heads) class 0 - 1) 0))
             × (tags′ ≡ set (t .tags) v (getD (t .tags) (valueOf steps (getD (t .heads) class 0 - 1)) 0))
-            → Turned s steps i t (holders heads′ (t .older) tags′ (t .sizes) (t .made))
+            → Turned s steps i t (slotTables heads′ (t .older) tags′ (t .made))
         turned-taken heads′ tags′ e =
             let first : 0 < getD (t .heads) (index (given-class .0)) 0 = subst (λ k. 0 < getD (t .heads) k 0) (given-class .2) some-free in
             rw (e .0, e .1, given-class .2)
             (record {
               stands = rw give-next (stands-on (stands-taken (h .stands) (h .room) v (sizeOf f v) (give-fits .0) (give-fits .1) (given-class .0) (given-class .1) bare first));
-              long = record { heads = length-set (t .heads) (index (given-class .0)) _; older = refl; tags = length-set (t .tags) v _; sizes = refl };
+              long = record { heads = length-set (t .heads) (index (given-class .0)) _; older = refl; tags = length-set (t .tags) v _ };
             })
 
   -- A SLOT FREED
@@ -163,7 +150,7 @@ module _ (s steps : List ℕ) (i : ℕ) (t : Holders) (h : Turn s steps i t) whe
 
         pub turned-freed :
             (heads′ older′ : List ℕ) → (heads′ ≡ set (t .heads) class (i + 1)) × (older′ ≡ set (t .older) i (getD (t .heads) class 0))
-            → Turned s steps i t (holders heads′ older′ (t .tags) (t .sizes) (t .made))
+            → Turned s steps i t (slotTables heads′ older′ (t .tags) (t .made))
         turned-freed heads′ older′ e =
             let same = free-next ∙ ap (λ (o : Option ℕ). freeOwn (sizeOf f v) o before) slot-there in
             rw (e .0, e .1, freed-class .2)
@@ -172,5 +159,5 @@ module _ (s steps : List ℕ) (i : ℕ) (t : Holders) (h : Turn s steps i t) whe
                   rw same
                   (stands-freed (h .stands) (h .room) v (sizeOf f v) (free-fits .0) (free-fits .1) (freed-class .0) (freed-class .1) (tag - 1)
                   (omega (arith, h .room .older)) refl (tag-of-slot tag tagged));
-              long = record { heads = length-set (t .heads) (index (freed-class .0)) _; older = length-set (t .older) i _; tags = refl; sizes = refl };
+              long = record { heads = length-set (t .heads) (index (freed-class .0)) _; older = length-set (t .older) i _; tags = refl };
             })

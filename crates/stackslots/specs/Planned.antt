@@ -25,7 +25,7 @@ use Rattle.agreement.specs.Spilled.{listed-spilled}
 use Rattle.agreement.specs.Growing.{StepsKeep, planned-costs}
 use Rattle.rows.specs.Rows.{rowValues}
 use Rattle.planning.specs.Standing.{slotsBy}
-use Rattle.stackslots.specs.Holders.{Fitting}
+use Rattle.stackslots.specs.Tables.{Fitting}
 
 -- every value that has a slot is so
 abbrev Slotted : (ℕ → Type 0) → StackSlots → Type 0

@@ -1,86 +1,52 @@
-// The noted steps replayed, one after the other: the Rust's `get_or_create_stack_slot` and `free_stack_slot`.
+// The noted steps replayed: the free lists tell which slot each step is about, and the table of holders keeps who has each
+// slot and how large it is.
 ghost use mathlib.Core.Path.{_≡_};
-ghost use Prim.Native.Nat.{_%_};
-ghost use lib.ListN.{getD};
-ghost use Rattle.stackslots.specs.Holders.{holders, Turn, Turned, Lent, Replayed};
-use crate::holders::class_of;
-use crate::holders::make_new;
-use crate::holders::put_back;
-use crate::holders::tag_of;
-use crate::holders::take_freed;
-use records::values::size_of;
+ghost use Prim.Native.Nat.{_+_, _≤_};
+ghost use lib.ListN.{length};
+ghost use Rattle.rules.specs.Limits.{largestValues, largestRecords};
+ghost use Rattle.rows.specs.Rows.{rowValues};
+ghost use Rattle.stackslots.specs.Tables.{Lent, Replayed};
+ghost use Rattle.stackslots.specs.SlotSizes.{sizesOver};
+use crate::placing::find_places;
+use holders::Holder;
+use holders::table::replayed;
+use rules::LARGEST_RECORDS;
+use rules::LARGEST_VALUES;
 
-// A slot for the value of step i, if it has none: the slot last freed of its size, else a new one. Answers how many slots
-// there are.
-fn give_slot(
-    s: &[u8],
-    steps: &[u32],
-    i: usize,
-    heads: &mut [usize],
-    older: &[usize],
-    tags: &mut [u32],
-    sizes: &mut [u32],
-    made: usize,
-) -> usize
-    requires { ⌜ Turn (now s) (now steps) i (holders (now heads) (now older) (now tags) (now sizes) made) × (getD (now steps) i 0 % 2 ≡ 0) ⌝ }
-    ensures { λ r. ⌜ Turned (now (s .entry)) (now (steps .entry)) i (holders (now (heads .entry)) (now (older .entry)) (now (tags .entry)) (now (sizes .entry)) made) (holders (now (heads .exit)) (now (older .entry)) (now (tags .exit)) (now (sizes .exit)) r) ⌝ }
+// The sizes of the first slots of the table, as numbers.
+fn sizes_of(table: [Holder; LARGEST_VALUES], made: usize, sizes: &mut [u32])
+    requires { ⌜ (made ≤ largestValues) × (made ≤ length (now sizes)) ⌝ }
+    ensures { λ _. ⌜ now (sizes .exit) ≡ sizesOver table made (now (sizes .entry)) ⌝ }
 {
-    let v = steps[i] / 2;
-    if tag_of(tags, v) != 0 {
-        return made;
+    let mut k: usize = 0;
+    while k < made {
+        let h = table[k];
+        sizes[k] = h.size;
+        k += 1;
     }
-    let size = size_of(s, v);
-    let class = class_of(size);
-    if heads[class] == 0 {
-        return make_new(v as usize, size, tags, sizes, made);
-    }
-    take_freed(steps, v as usize, class, heads, older, tags);
-    made
 }
 
-// Step i: its value is given a slot, or its value's slot, if it has one, goes on its size's free list.
-fn step(
-    s: &[u8],
-    steps: &[u32],
-    i: usize,
-    heads: &mut [usize],
-    older: &mut [usize],
-    tags: &mut [u32],
-    sizes: &mut [u32],
-    made: usize,
-) -> usize
-    requires { ⌜ Turn (now s) (now steps) i (holders (now heads) (now older) (now tags) (now sizes) made) ⌝ }
-    ensures { λ r. ⌜ Turned (now (s .entry)) (now (steps .entry)) i (holders (now (heads .entry)) (now (older .entry)) (now (tags .entry)) (now (sizes .entry)) made) (holders (now (heads .exit)) (now (older .exit)) (now (tags .exit)) (now (sizes .exit)) r) ⌝ }
-{
-    let noted = steps[i];
-    if noted % 2 == 0 {
-        return give_slot(s, steps, i, heads, older, tags, sizes, made);
-    }
-    let v = noted / 2;
-    if tag_of(tags, v) != 0 {
-        put_back(class_of(size_of(s, v)), i, heads, older);
-    }
-    made
-}
-
-// All steps, over tables of zeros. Answers how many slots there are.
-pub fn replay(
-    s: &[u8],
-    steps: &[u32],
+// All steps, over tables of zeros: each value's slot, and the sizes of the slots. Answers how many slots there are.
+pub fn replay<'a>(
+    s: &'a [u8],
+    steps: &'a [u32],
     count: usize,
     heads: &mut [usize],
     older: &mut [usize],
     tags: &mut [u32],
     sizes: &mut [u32],
 ) -> usize
-    requires { ⌜ Lent (now s) (now steps) count (now heads) (now older) (now tags) (now sizes) ⌝ }
+    requires { ⌜ Lent (now s) (now steps) count (now heads) (now older) (now tags) × (count ≤ largestValues + largestRecords) × (rowValues ≤ length (now sizes)) ⌝ }
     ensures { λ r. ⌜ Replayed (now (s .entry)) (now (steps .entry)) count (now (heads .entry)) (now (older .entry)) (now (tags .entry)) (now (sizes .entry)) r (now (heads .exit)) (now (older .exit)) (now (tags .exit)) (now (sizes .exit)) ⌝ }
 {
-    let mut made: usize = 0;
-    let mut i: usize = 0;
-    while i < count {
-        made = step(s, steps, i, heads, older, tags, sizes, made);
-        i += 1;
-    }
+    let mut places: [u32; LARGEST_VALUES + LARGEST_RECORDS] = [0; LARGEST_VALUES + LARGEST_RECORDS];
+    let made = find_places(s, steps, count, heads, older, tags, &mut places);
+    let nobody = Holder {
+        size: 0,
+        owner: 0,
+        held: false,
+    };
+    let table = replayed(s, steps, &places, count, [nobody; LARGEST_VALUES]);
+    sizes_of(table, made, sizes);
     made
 }

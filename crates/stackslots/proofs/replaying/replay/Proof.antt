@@ -1,65 +1,64 @@
--- `stackslots::replaying::replay` meets its contract.
+use Rattle.stackslots.proofs.Replays.{made-few, replay-ready, replay-done}
+use mathlib.Core.Path.{refl}
+use native.Mathlib.Omega.{arith}
 use borrow.Author.Needs.{needs}
-use Prim.Native.Nat.{_-_}
-use native.Mathlib.Numerals.{add-one}
-use Rattle.stackslots.specs.Holders.{holders}
-use Rattle.stackslots.proofs.Loop.{Going, going-start, going-turn, going-more, going-done}
 use Rattle.stackslots.proofs.replaying.replay.Statement.{statement}
 use Rattle.stackslots.proofs.replaying.replay.Tie as tie
+use Rattle.stackslots.proofs.replaying.replay.Reads as reads
+use Rattle.stackslots.proofs.replaying.replay.Lts as lts
+use Rattle.holders.proofs.table.replayed.Reads as replayed-reads
+use Rattle.stackslots.proofs.placing.find_places.Reads as find-places-reads
+use Rattle.stackslots.proofs.replaying.sizes_of.Reads as sizes-of-reads
 
-abbrev Inv-loop : tie.InvT-loop
-Inv-loop s steps count heads₀ older₀ tags₀ sizes₀ made₀ i₀ heads older tags sizes made i = Going s steps count heads₀ older₀ tags₀ sizes₀ i (holders heads older tags sizes made)
+-- src/replaying.rt:43:65
+slice-aggregate-find-places : tie.Need-slice-aggregate-find-places
+slice-aggregate-find-places c = search needs
 
-abbrev μ-loop : tie.MeasureT-loop
-μ-loop s steps count heads₀ older₀ tags₀ sizes₀ made₀ i₀ heads older tags sizes made i = count - i
+-- src/replaying.rt:43:9
+find-places-requires : tie.Need-find-places-requires
+find-places-requires c κs = search needs
 
-loop-holds : tie.Need-loop-holds Inv-loop μ-loop
-loop-holds c = going-start (c .before .before .before .before .before .before .args .s .now) (c .before .before .before .before .before .before .args .steps .now) (c .before .before .before .before .before .before .args .count) (c .before .before .before .before .before .before .args .heads .now) (c .before .before .before .before .before .before .args .older .now) (c .before .before .before .before .before .before .args .tags .now) (c .before .before .before .before .before .before .args .sizes .now) (c .before .before .before .before .before .before .pre)
+-- src/replaying.rt:49:36
+slice-aggregate-replayed : tie.Need-slice-aggregate-replayed
+slice-aggregate-replayed c = search needs
 
-step-requires : tie.Need-step-requires Inv-loop μ-loop
-step-requires c κs =
-    let start = c .before .before .before .before .before .before .before .before .before .before .before .before in
-    going-turn (start .args .s .now) (start .args .steps .now) (start .args .count) (start .args .heads .now) (start .args .older .now) (start .args .tags .now) (start .args .sizes .now) (start .pre) (c .before .before .before .before .before .loop .i) (holders (c .before .before .before .before .before .loop .heads) (c .before .before .before .before .before .loop .older) (c .before .before .before .before .before .loop .tags) (c .before .before .before .before .before .loop .sizes) (c .before .before .before .before .before .loop .made)) (c .before .before .before .before .before .loop .inv) (c .before .before .before .before .loop-test .taken)
+-- src/replaying.rt:49:9
+replayed-requires : tie.Need-replayed-requires
+replayed-requires c κs = replay-ready (c .before .before .before .before .before .before .before .before .before .before .before .before .before .before .before .before .before .before .before .pre .0) (c .before .before .before .before .before .before .before .before .find-places .ensures) (c .before .before .before .before .before .before .before .before .before .before .before .before .before .before .before .before .before .before .before .pre .1)
 
-add-i : tie.Need-add-i Inv-loop μ-loop
-add-i c = search needs
+-- src/replaying.rt:50:5
+sizes-of-requires : tie.Need-sizes-of-requires
+sizes-of-requires c κs = let few = made-few (c .before .before .before .before .before .before .before .before .before .before .before .before .before .before .before .before .before .before .before .before .before .pre .0) (c .before .before .before .before .before .before .before .before .before .before .find-places .ensures) in (omega (arith, few), omega (arith, few, c .before .before .before .before .before .before .before .before .before .before .before .before .before .before .before .before .before .before .before .before .before .pre .2))
 
-loop-less : tie.Need-loop-less Inv-loop μ-loop
-loop-less c = search needs
+-- src/replaying.rt:30:1
+same-length : tie.Need-same-length
+same-length c = search needs
 
-loop-again : tie.Need-loop-again Inv-loop μ-loop
-loop-again c =
-    let start = c .before .before .before .before .before .before .before .before .before .before .before .before .before .before .before .before .before .before .before .before .before in
-    rw (add-one (c .before .before .before .before .before .before .before .before .before .before .before .before .before .before .loop .i)) (going-more (start .args .s .now) (start .args .steps .now) (start .args .count) (start .args .heads .now) (start .args .older .now) (start .args .tags .now) (start .args .sizes .now) (start .pre) (c .before .before .before .before .before .before .before .before .before .before .before .before .before .before .loop .i) (holders (c .before .before .before .before .before .before .before .before .before .before .before .before .before .before .loop .heads) (c .before .before .before .before .before .before .before .before .before .before .before .before .before .before .loop .older) (c .before .before .before .before .before .before .before .before .before .before .before .before .before .before .loop .tags) (c .before .before .before .before .before .before .before .before .before .before .before .before .before .before .loop .sizes) (c .before .before .before .before .before .before .before .before .before .before .before .before .before .before .loop .made)) (c .before .before .before .before .before .before .before .before .before .before .before .before .before .before .loop .inv) (c .before .before .before .before .before .before .before .before .before .before .before .before .before .loop-test .taken) _ (c .before .before .before .before .before .before .before .before .step .ensures))
+-- src/replaying.rt:30:1
+same-length-2 : tie.Need-same-length-2
+same-length-2 c = search needs
 
-same-length : tie.Need-same-length Inv-loop μ-loop
-same-length c = c .before .loop .inv .long .heads
+-- src/replaying.rt:30:1
+same-length-3 : tie.Need-same-length-3
+same-length-3 c = search needs
 
-same-length-2 : tie.Need-same-length-2 Inv-loop μ-loop
-same-length-2 c = c .before .loop .inv .long .older
+-- src/replaying.rt:30:1
+same-length-4 : tie.Need-same-length-4
+same-length-4 c = search needs
 
-same-length-3 : tie.Need-same-length-3 Inv-loop μ-loop
-same-length-3 c = c .before .loop .inv .long .tags
-
-same-length-4 : tie.Need-same-length-4 Inv-loop μ-loop
-same-length-4 c = c .before .loop .inv .long .sizes
-
-returns : tie.Need-returns Inv-loop μ-loop
-returns c =
-    let start = c .before .before .before .before .before .before .before .before in
-    going-done (start .args .s .now) (start .args .steps .now) (start .args .count) (start .args .heads .now) (start .args .older .now) (start .args .tags .now) (start .args .sizes .now) (start .pre) (c .before .loop .i) (holders (c .before .loop .heads) (c .before .loop .older) (c .before .loop .tags) (c .before .loop .sizes) (c .before .loop .made)) (c .before .loop .inv) (c .loop-test .left)
+-- src/replaying.rt:30:1
+returns : tie.Need-returns
+returns c = replay-done (c .before .before .before .before .before .before .before .before .before .before .before .before .before .before .before .before .before .before .before .before .before .before .before .before .pre .0) (c .before .before .before .before .before .before .before .before .before .before .before .before .before .find-places .ensures) (c .before .before .before .before .replayed .result) (c .before .before .before .before .replayed .ensures) (c .before .before .before .before .before .before .before .before .before .before .before .before .before .before .before .before .before .before .before .before .before .before .before .before .args .sizes .now) _ (c .before .before .sizes-of .ensures) (c .before .before .before .before .before .before .before .before .before .before .before .before .before .before .before .before .before .before .before .before .before .before .before .before .pre .2)
 
 pub replay-spec : {M : Type 1} → statement M
 replay-spec =
     tie.close
     (tie.spec
-    Inv-loop
-    μ-loop
-    loop-holds
-    step-requires
-    add-i
-    loop-less
-    loop-again
+    slice-aggregate-find-places
+    find-places-requires
+    slice-aggregate-replayed
+    replayed-requires
+    sizes-of-requires
     same-length
     same-length-2
     same-length-3

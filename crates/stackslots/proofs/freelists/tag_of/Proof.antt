@@ -1,9 +1,9 @@
--- `stackslots::holders::tag_of` meets its contract.
+-- `stackslots::freelists::tag_of` meets its contract.
 use lib.ListN.{List·getD-eq-default}
 use mathlib.Core.Path.{sym}
 use borrow.Author.Needs.{needs}
-use Rattle.stackslots.proofs.holders.tag_of.Statement.{statement}
-use Rattle.stackslots.proofs.holders.tag_of.Tie as tie
+use Rattle.stackslots.proofs.freelists.tag_of.Statement.{statement}
+use Rattle.stackslots.proofs.freelists.tag_of.Tie as tie
 
 mul-result : tie.Need-mul-result
 mul-result c = search needs

@@ -1,9 +1,9 @@
--- `stackslots::holders::class_of` meets its contract.
+-- `stackslots::freelists::class_of` meets its contract.
 use mathlib.Core.Path.{sym, _∙_}
 use Rattle.stackslots.proofs.Classes.{class-found, class-missing}
 use borrow.Author.Needs.{needs}
-use Rattle.stackslots.proofs.holders.class_of.Statement.{statement}
-use Rattle.stackslots.proofs.holders.class_of.Tie as tie
+use Rattle.stackslots.proofs.freelists.class_of.Statement.{statement}
+use Rattle.stackslots.proofs.freelists.class_of.Tie as tie
 
 new-requires : tie.Need-new-requires
 new-requires c κs = search needs

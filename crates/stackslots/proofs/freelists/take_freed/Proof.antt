@@ -1,9 +1,9 @@
--- `stackslots::holders::take_freed` meets its contract.
+-- `stackslots::freelists::take_freed` meets its contract.
 use lib.ListN.{set}
 use mathlib.Core.Path.{refl, ap}
 use borrow.Author.Needs.{needs}
-use Rattle.stackslots.proofs.holders.take_freed.Statement.{statement}
-use Rattle.stackslots.proofs.holders.take_freed.Tie as tie
+use Rattle.stackslots.proofs.freelists.take_freed.Statement.{statement}
+use Rattle.stackslots.proofs.freelists.take_freed.Tie as tie
 
 mul-last : tie.Need-mul-last
 mul-last c = search needs

@@ -7,7 +7,7 @@ ghost use lib.Dec.{T};
 ghost use Rattle.rules.specs.Lists.{has};
 ghost use Rattle.rules.specs.Records.{slotSizes, log2};
 ghost use Rattle.rows.specs.Rows.{rowValues};
-ghost use Rattle.stackslots.specs.Holders.{valueOf};
+ghost use Rattle.stackslots.specs.Tables.{valueOf, placeNumber};
 use slots::SizeClass;
 use slots::SlotSize;
 
@@ -60,12 +60,33 @@ pub fn take_freed(
 }
 
 // A value gets a new slot. Answers how many slots there are.
-pub fn make_new(v: usize, size: u32, tags: &mut [u32], sizes: &mut [u32], made: usize) -> usize
-    requires { ⌜ (v < length (now tags)) × (made < length (now sizes)) × (made < rowValues) ⌝ }
-    ensures { λ r. ⌜ (r ≡ made + 1) × (now (tags .exit) ≡ set (now (tags .entry)) v (made + 1)) × (now (sizes .exit) ≡ set (now (sizes .entry)) made size) ⌝ }
+pub fn make_new(v: usize, tags: &mut [u32], made: usize) -> usize
+    requires { ⌜ (v < length (now tags)) × (made < rowValues) ⌝ }
+    ensures { λ r. ⌜ (r ≡ made + 1) × (now (tags .exit) ≡ set (now (tags .entry)) v (made + 1)) ⌝ }
 {
-    sizes[made] = size;
     let count = made + 1;
     tags[v] = count as u32;
     count
+}
+
+// What is noted of a step: the tag of the slot that its value gets, or of the one that is freed; 0 where nothing changes.
+fn place_of(noted: u32, before: u32, after: u32) -> u32
+    ensures { λ r. ⌜ r ≡ placeNumber noted before after ⌝ }
+{
+    if noted % 2 != 0 {
+        return before;
+    }
+    if before != 0 {
+        return 0;
+    }
+    after
+}
+
+// Notes it of step i, by the tag that its value had before the step.
+pub fn note_place(steps: &[u32], i: usize, before: u32, tags: &[u32], places: &mut [u32])
+    requires { ⌜ (i < length (now steps)) × (i < length (now places)) ⌝ }
+    ensures { λ _. ⌜ now (places .exit) ≡ set (now (places .entry)) i (placeNumber (getD (now (steps .entry)) i 0) before (getD (now (tags .entry)) (valueOf (now (steps .entry)) i) 0)) ⌝ }
+{
+    let noted = steps[i];
+    places[i] = place_of(noted, before, tag_of(tags, noted / 2));
 }
