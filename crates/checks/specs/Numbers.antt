@@ -129,7 +129,7 @@ module _ (values blocks : ℕ) (w : Words) where
   abbrev fitsAs : ℕ → Type 0
   fitsAs k = T (numbersFit values blocks (ofKindOnly k))
 
-  fit-edge : T (numbersFit values blocks w) → T (eqb (w .kind) 7) → T (ltb (w .second) blocks)
+  pub fit-edge : T (numbersFit values blocks w) → T (eqb (w .kind) 7) → T (ltb (w .second) blocks)
   unfolding numbersFit
   fit-edge h e = subst fitsAs (eqb→eq (w .kind) 7 e) h
 

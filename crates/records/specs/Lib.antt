@@ -6,3 +6,4 @@ pub mod Parts
 pub mod Leading
 pub mod Values
 pub mod Writing
+pub mod Table

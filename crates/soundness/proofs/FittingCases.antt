@@ -1,15 +1,16 @@
--- Edge arguments and parameters from places on, one record more; the blocks of a file from a place on, one record more.
-use Prim.Native.Nat.{ℕ, zero, suc, _+_, _-_, _<_, _≤_}
-use mathlib.Core.Path.{_≡_, refl, sym, ap, ap₂, _∙_}
+-- Edge arguments and parameters from places on, one record more; an edge's target, by the file's block table.
+use Prim.Native.Nat.{ℕ, zero, suc, _+_, _<_, _≤_}
+use mathlib.Core.Path.{_≡_, refl, sym, ap, ap₂, subst, _∙_}
 use mathlib.Core.Bool.{Bool, true, false, not, _&&_, _||_, cond}
-use mathlib.Core.List.{List, [], _∷_, map}
+use mathlib.Core.List.{List, [], _∷_, _++_, map}
 use native.Mathlib.Omega.{arith}
-use lib.ListN.{getD}
+use lib.ListN.{length, getD}
 use lib.Dec.{T, eqb, ltb, eqb→eq, ltb→lt, nltb→le}
 use borrow.Author.Tests.{eq-eqb, ne-eqb}
+use Rattle.rules.specs.Lists.{all}
 use Rattle.rules.specs.Tree.{Block, Function}
-use Rattle.rules.specs.Records.{bit, encode, kind, recordAt, recordCount, records}
-use Rattle.rules.specs.File.{ordered, cut, blockOf, function}
+use Rattle.rules.specs.Records.{encode, kind, recordAt, recordCount, records}
+use Rattle.rules.specs.File.{ordered, cut, blockOf, function, functionIn}
 use Rattle.rules.specs.Graph.{blockAt, sizeOf}
 use Rattle.rules.specs.Refusals.{fit}
 use Rattle.rules.specs.declared.EdgeArgument.{EdgeArgument}
@@ -18,10 +19,17 @@ use Rattle.rules.specs.declared.Words.{Words}
 use Rattle.rules.specs.declared.Record.{Record}
 use Rattle.rules.specs.declared.Record.the-variants as record′
 use Rattle.lists.specs.Tests.{test-elim, neqb→ne}
-use Rattle.records.specs.Places.{rest, rest-next, restBy-done}
+use Rattle.lists.specs.Members.{all→∈, getD-∈}
+use Rattle.records.specs.Places.{rest, rest-more, rest-next, rest-all, restBy-done}
 use Rattle.records.specs.Parts.{argument, second, blocks-more}
-use Rattle.records.specs.Leading.{leading, chain-next}
-use Rattle.records.specs.Values.{record-there, record-beyond}
+use Rattle.records.specs.Leading.{leading, chain-behind}
+use Rattle.records.specs.Values.{each-length, record-there, record-beyond}
+use Rattle.checks.specs.Numbers.{numbersFit, fit as fitNumbers, fit-edge, numbersInFile-by-records}
+use Rattle.graph.specs.Sections.{placeIf, places}
+use Rattle.graph.specs.Placed.{placesOf, placeTable}
+use Rattle.graph.specs.Blocks.{placeOf, length-blockPlaces}
+use Rattle.graph.specs.Tables.{Given}
+use Rattle.graph.specs.ByTable.{place-at, start-less, end-le}
 use Rattle.soundness.specs.Standing.{only}
 use Rattle.soundness.specs.Fitting.{argumentsFirst, parametersFirst, argumentFits, edgeFits, fit-more, parameters-first}
 
@@ -89,44 +97,66 @@ module _ (f : Function) (s : List ℕ) (p : ℕ) (b : Words) (e : b ≡ encode (
         ap₂ (λ ws vs. fit f (map argument ws) (map second vs)) (leads-more s i a d m 8 (omega arith) q .1) (leads-more s p b e l 3 (omega arith) r .1)
         ∙ fit-more f (argument a) (argumentsFirst (rest s (i + 1))) (b .second) (parametersFirst (rest s (p + 1)))
 
--- BLOCK n OF WHAT IS LEFT, n counted from the place on.
-module _ (s : List ℕ) (i left : ℕ) (h : i < recordCount s) where
-  abbrev opens : ℕ
-  opens = bit (eqb 2 (kind (recordAt s i)))
+-- THE PARAMETERS OF A BLOCK, found by its place.
+module _ (s : List ℕ) (o : T (ordered 0 (records s))) where
+  -- at the place found for it stands the block of that number
+  abbrev Stands : List ℕ → List Block → ℕ → Type 0
+  Stands ps bs b =
+      parametersFirst (rest s (suc (getD (ps ++ (recordCount s ∷ [])) b 0)))
+      ≡ getD bs b (record { cold = false; number = 0; parameters = []; items = [] }) .parameters
 
-  abbrev first : Block
-  first = blockOf (record { head = recordAt s i; body = cut (eqb 2) (rest s (i + 1)) .front })
+  -- each block that opens among some records stands at its place among them
+  abbrev Placed : ℕ → List Record → Type 0
+  Placed i rs = (b : ℕ) → b < length (places (eqb 2) i rs) → Stands (places (eqb 2) i rs) (function rs .blocks) b
 
-  abbrev picked : Bool → ℕ → Block
-  picked b n =
-      getD (elim b [ true ↦ first ∷ function (rest s (i + 1)) .blocks | false ↦ function (rest s (i + 1)) .blocks ]) n
-      (record { cold = false; number = 0; parameters = []; items = [] })
-
-  from-here : blockAt (function (rest s i)) left ≡ picked (eqb 2 (kind (recordAt s i))) left
-  from-here = ap (λ bs. getD bs left (record { cold = false; number = 0; parameters = []; items = [] }))
-      (ap (λ rs. function rs .blocks) (rest-next s i h) ∙ blocks-more (recordAt s i) (rest s (i + 1)))
-
-  pub block-next : opens ≤ left → blockAt (function (rest s i)) left ≡ blockAt (function (rest s (i + 1))) (left - opens)
-  block-next l = from-here ∙ go (eqb 2 (kind (recordAt s i))) left l
+  placed : (n i : ℕ) → i + n ≡ recordCount s → Placed i (rest s i)
+  placed zero i e =
+      subst (Placed i) (sym (rest-end s i (omega arith) (omega arith))) (λ b l. absurd (omega arith))
+  placed (suc n) i e =
+      let r = recordAt s i in
+      let rs = rest s (suc i) in
+      let ps = places (eqb 2) (suc i) rs in
+      subst (Placed i) (sym (rest-more s i (omega arith)))
+      (subst (λ bs. (b : ℕ) → b < length (placeIf (eqb 2 (kind r)) i ps) → Stands (placeIf (eqb 2 (kind r)) i ps) bs b) (sym (blocks-more r rs))
+      (go ps (function rs .blocks) (eqb 2 (kind r)) (λ two. sym (parameters-first r rs two (chain-behind s o i (omega arith)))) (placed n (suc i) (omega arith))))
     where
-      go : (b : Bool) (n : ℕ) → bit b ≤ n → picked b n ≡ blockAt (function (rest s (i + 1))) (n - bit b)
-      go true zero l = absurd (omega arith)
-      go true (suc n) l = let e : n ≡ suc n - 1 = omega arith in ap (blockAt (function (rest s (i + 1)))) e
-      go false n l = let e : n ≡ n - 0 = omega arith in ap (blockAt (function (rest s (i + 1)))) e
+      first : Block
+      first = blockOf (record { head = recordAt s i; body = cut (eqb 2) (rest s (suc i)) .front })
 
-  pub block-here : T (ordered 0 (records s)) → left < opens → parametersFirst (rest s (i + 1)) ≡ blockAt (function (rest s i)) left .parameters
-  block-here o l =
-      sym (parameters-first (recordAt s i) (rest s (i + 1)) (two (eqb 2 (kind (recordAt s i))) l) (chain-next s o i h))
-      ∙ sym (ap (λ x. x .parameters) (from-here ∙ go (eqb 2 (kind (recordAt s i))) left l))
-    where
-      two : (b : Bool) → left < bit b → T b
-      two true l = tt
-      two false l = absurd (omega arith)
+      go : (ps : List ℕ) (bs : List Block) (opens : Bool) → (T opens → parametersFirst (rest s (suc i)) ≡ first .parameters)
+          → ((b : ℕ) → b < length ps → Stands ps bs b)
+          → (b : ℕ) → b < length (placeIf opens i ps) → Stands (placeIf opens i ps) (elim opens [ true ↦ first ∷ bs | false ↦ bs ]) b
+      go ps bs true own later zero l = own tt
+      go ps bs true own later (suc b) l = later b (omega arith)
+      go ps bs false own later b l = later b l
 
-      go : (b : Bool) (n : ℕ) → n < bit b → picked b n ≡ first
-      go true zero l = refl
-      go true (suc n) l = absurd (omega arith)
-      go false n l = absurd (omega arith)
+  parameters-placed : (b : ℕ) → b < length (functionIn s .blocks) → parametersFirst (rest s (suc (placeOf s b))) ≡ blockAt (functionIn s) b .parameters
+  unfolding placeTable placesOf
+  parameters-placed b l = subst (Placed 0) (rest-all s) (placed (recordCount s) 0 (omega arith)) b (omega (arith, length-blockPlaces s))
+
+-- AN EDGE'S TARGET, by the file's block table.
+module _ (s table : List ℕ) (g : Given s table) (i : ℕ) (w : Words) (e : w ≡ encode (recordAt s i)) (h : i < recordCount s) (seven : w .kind ≡ 7) where
+  -- it is a block of the file,
+  pub target-in-file : w .second < length (functionIn s .blocks)
+  unfolding records
+  target-in-file =
+      let values = length (functionIn s .values) in
+      let blocks = length (functionIn s .blocks) in
+      let all-fit : T (all (fitNumbers values blocks) (records s)) = subst T (numbersInFile-by-records (records s) (g .inOrder)) (g .inFile) in
+      let long = each-length (λ t. recordAt t 0) (recordCount s) s in
+      let there = all→∈ (fitNumbers values blocks) (records s) all-fit (getD-∈ (records s) i record′.Outside (omega arith)) in
+      let fits = subst (λ x. T (numbersFit values blocks x)) (ap encode (record-there s i h) ∙ sym e) there in
+      ltb→lt (w .second) blocks (fit-edge values blocks w fits (subst T (sym (eq-eqb (w .kind) 7 seven)) tt))
+
+  -- which starts in it,
+  pub target-starts : getD table (w .second) 0 + 1 ≤ recordCount s
+  target-starts = omega (arith, start-less s table g (w .second) target-in-file, end-le s table g (w .second) target-in-file)
+
+  -- and behind its record stand its parameters.
+  pub target-parameters : parametersFirst (rest s (getD table (w .second) 0 + 1)) ≡ blockAt (functionIn s) (w .second) .parameters
+  target-parameters =
+      let place : getD table (w .second) 0 + 1 ≡ suc (placeOf s (w .second)) = omega (arith, place-at s table g (w .second)) in
+      ap (λ p. parametersFirst (rest s p)) place ∙ parameters-placed s (g .inOrder) (w .second) target-in-file
 
 -- AN EDGE ARGUMENT BY ITS WORDS: a returned or an exception word fits any parameter.
 module _ (f : Function) (a : Words) (p : ℕ) where

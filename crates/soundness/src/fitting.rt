@@ -2,19 +2,20 @@
 ghost use mathlib.Core.Path.{_≡_};
 ghost use mathlib.Core.Bool.{true};
 ghost use Prim.Native.Nat.{_+_, _<_, _≤_};
+ghost use lib.ListN.{length};
+ghost use Rattle.rules.specs.Limits.{largestBlocks};
 ghost use Rattle.rules.specs.Records.{recordAt, recordCount, records};
 ghost use Rattle.rules.specs.File.{ordered, functionIn};
-ghost use Rattle.rules.specs.Graph.{blockAt};
-ghost use Rattle.rules.specs.Refusals.{fit};
+ghost use Rattle.rules.specs.Refusals.{fit, numbersInFile};
 ghost use Rattle.records.specs.Places.{rest};
 ghost use Rattle.records.specs.Parts.{argument};
+ghost use Rattle.graph.specs.Tables.{Given};
 ghost use Rattle.soundness.specs.Fitting.{argumentsFirst, parametersFirst, argumentFits, edgeFits, fitting};
-use checks::counts::one_if_same;
-use records::kind_of;
-use records::record_at;
+use graph::places::places_of;
 use records::values::size_of;
 use records::values::words_from;
-use records::words_of;
+use records::words_at;
+use rules::LARGEST_BLOCKS;
 use rules::RECORD_BYTES;
 use rules::Words;
 
@@ -56,49 +57,41 @@ fn arguments_fit(s: &[u8], at: usize, to: usize) -> bool
     b.kind != 3
 }
 
-// The place behind the record that opens block b, where its parameters start; the end of a file that has no such block.
-fn behind_block(s: &[u8], b: u32) -> usize
-    requires { ⌜ ordered 0 (records (now s)) ≡ true ⌝ }
-    ensures { λ r. ⌜ (r ≤ recordCount (now (s .entry))) × (parametersFirst (rest (now (s .entry)) r) ≡ blockAt (functionIn (now (s .entry))) b .parameters) ⌝ }
-{
-    let n = s.len() / RECORD_BYTES;
-    let mut left = b as usize;
-    let mut i: usize = 0;
-    while i < n {
-        let here = one_if_same(2, kind_of(record_at(s, i)));
-        if left < here {
-            return i + 1;
-        }
-        left -= here;
-        i += 1;
-    }
-    n
-}
-
-// Whether the record at place i, if it is an edge, fits its target.
-fn edge_fits(s: &[u8], i: usize) -> bool
-    requires { ⌜ (ordered 0 (records (now s)) ≡ true) × (i < recordCount (now s)) ⌝ }
+// Whether the record at place i, if it is an edge, fits its target, whose parameters stand behind its record.
+fn edge_fits(s: &[u8], places: &[usize], i: usize) -> bool
+    requires { ⌜ Given (now s) (now places) × (i < recordCount (now s)) ⌝ }
     ensures { λ r. ⌜ r ≡ edgeFits (functionIn (now (s .entry))) (recordAt (now (s .entry)) i) (rest (now (s .entry)) (i + 1)) ⌝ }
 {
-    let w = words_of(record_at(s, i));
+    let w = words_at(s, i);
     if w.kind != 7 {
         return true;
     }
-    arguments_fit(s, i + 1, behind_block(s, w.second))
+    let target = w.second as usize;
+    arguments_fit(s, i + 1, places[target] + 1)
 }
 
-// Whether every edge of a file in order fits its target.
-pub fn edges_fit(s: &[u8]) -> bool
-    requires { ⌜ ordered 0 (records (now s)) ≡ true ⌝ }
+// Whether every edge of a file fits its target, found by the file's block table.
+fn each_edge_fits(s: &[u8], places: &[usize]) -> bool
+    requires { ⌜ Given (now s) (now places) ⌝ }
     ensures { λ r. ⌜ r ≡ fitting (functionIn (now (s .entry))) (records (now (s .entry))) ⌝ }
 {
     let n = s.len() / RECORD_BYTES;
     let mut i: usize = 0;
     while i < n {
-        if !edge_fits(s, i) {
+        if !edge_fits(s, places, i) {
             return false;
         }
         i += 1;
     }
     true
+}
+
+// Whether every edge of a file in order, with its numbers in it and not too many blocks, fits its target.
+pub fn edges_fit(s: &[u8]) -> bool
+    requires { ⌜ (ordered 0 (records (now s)) ≡ true) × (numbersInFile (functionIn (now s)) ≡ true) × (length (functionIn (now s) .blocks) ≤ largestBlocks) ⌝ }
+    ensures { λ r. ⌜ r ≡ fitting (functionIn (now (s .entry))) (records (now (s .entry))) ⌝ }
+{
+    let mut places: [usize; LARGEST_BLOCKS + 1] = [0; LARGEST_BLOCKS + 1];
+    places_of(s, 2, &mut places);
+    each_edge_fits(s, &places)
 }

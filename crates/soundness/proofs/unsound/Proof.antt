@@ -21,13 +21,13 @@ returns : tie.Need-returns
 returns c =
     let s = c .before .before .before .before .args .s .now in
     let yes : standing 2 (records s) ≡ true = sym (c .before .before .all-stand .ensures) ∙ c .before .if1 .taken in
-    ap not (c .edges-fit .ensures ∙ sym (ap (λ b. b && fitting (functionIn s) (records s)) yes) ∙ sound-by-records (records s) (subst (λ b. T b) (sym (c .before .before .before .before .pre)) tt))
+    ap not (c .edges-fit .ensures ∙ sym (ap (λ b. b && fitting (functionIn s) (records s)) yes) ∙ sound-by-records (records s) (subst (λ b. T b) (sym (c .before .before .before .before .pre .0)) tt))
 
 returns-2 : tie.Need-returns-2
 returns-2 c =
     let s = c .before .before .before .args .s .now in
     let no : standing 2 (records s) ≡ false = sym (c .before .all-stand .ensures) ∙ c .if1 .left in
-    ap not (sym (ap (λ b. b && fitting (functionIn s) (records s)) no) ∙ sound-by-records (records s) (subst (λ b. T b) (sym (c .before .before .before .pre)) tt))
+    ap not (sym (ap (λ b. b && fitting (functionIn s) (records s)) no) ∙ sound-by-records (records s) (subst (λ b. T b) (sym (c .before .before .before .pre .0)) tt))
 
 pub unsound-spec : {M : Type 1} → statement M
 unsound-spec = tie.close (tie.spec all-stand-requires edges-fit-requires returns returns-2)

@@ -2,6 +2,7 @@
 use Rattle.acceptance.proofs.Surveying.{ends-at-records, ends-at-function, ends-with-walk}
 use Rattle.acceptance.specs.Survey.{readable-countable, numbered-walked}
 use Rattle.acceptance.specs.Stages.{records-readable, said-no, said-yes}
+use Rattle.graph.specs.Few.{blocks-few}
 use borrow.Author.Needs.{needs}
 use Rattle.acceptance.proofs.survey.survey.Statement.{statement}
 use Rattle.acceptance.proofs.survey.survey.Tie as tie
@@ -16,7 +17,11 @@ returns : tie.Need-returns
 returns c = ends-at-records (c .before .before .before .before .before .before .before .before .before .before .args .s .now) _ _ _ _ _ _ _ (said-no (c .before .is-accepted .ensures) (c .before .before .records-verdict .ensures) (c .if1 .taken)) (c .before .before .records-verdict .ensures)
 
 function-verdict-requires : tie.Need-function-verdict-requires
-function-verdict-requires c κs = readable-countable (records-readable (c .before .before .before .before .before .before .before .before .before .before .before .args .s .now) (said-yes (c .before .before .is-accepted .ensures) (c .before .before .before .records-verdict .ensures) (c .before .if1 .left))) (c .before .before .before .before .before .before .before .before .before .before .before .pre .counts)
+function-verdict-requires c κs =
+    let start = c .before .before .before .before .before .before .before .before .before .before .before in
+    let s = start .args .s .now in
+    let r = records-readable s (said-yes (c .before .before .is-accepted .ensures) (c .before .before .before .records-verdict .ensures) (c .before .if1 .left)) in
+    (readable-countable r (start .pre .counts), blocks-few s (r .few))
 
 is-accepted-requires-2 : tie.Need-is-accepted-requires-2
 is-accepted-requires-2 c κs = search needs

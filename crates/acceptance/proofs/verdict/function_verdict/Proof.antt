@@ -18,7 +18,9 @@ returns : tie.Need-returns
 returns c = (sym (function-twice (c .before .before .before .before .before .before .before .args .s .now) (sym (c .before .before .before .not-defined-once .ensures .0) ∙ c .if1 .taken)), c .before .before .before .not-defined-once .ensures .1)
 
 unsound-requires : tie.Need-unsound-requires
-unsound-requires c κs = c .before .before .before .before .before .before .before .pre .inOrder
+unsound-requires c κs =
+    let pre = c .before .before .before .before .before .before .before .pre in
+    (pre .0 .inOrder, pre .0 .inFile, pre .1)
 
 same-length-2 : tie.Need-same-length-2
 same-length-2 c = search needs
