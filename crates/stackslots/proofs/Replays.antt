@@ -1,10 +1,10 @@
 -- The replay as a whole: from the places that are found, over the table of holders, to the sizes.
 use Prim.Native.Nat.{ℕ, _+_, _≤_}
-use mathlib.Core.Path.{_≡_, ap, subst, _∙_}
+use mathlib.Core.Path.{_≡_, ap, _∙_}
 use mathlib.Core.List.{List}
 use native.Mathlib.Omega.{arith}
-use lib.ListN.{length, take, replicate, length-replicate}
-use Rattle.rules.specs.Limits.{largestValues, largestRecords}
+use lib.ListN.{length, take, replicate}
+use Rattle.rules.specs.Limits.{largestValues}
 use Rattle.rows.specs.Rows.{rowValues}
 use Rattle.holders.specs.declared.Holder.{Holder}
 use Rattle.holders.specs.Table.{nobody, holdersAfter, Replayable}

@@ -5,23 +5,20 @@ use mathlib.Core.Bool.{cond}
 use mathlib.Core.Option.{Option, some}
 use mathlib.Core.List.{List, [], _∷_, _++_}
 use native.Mathlib.Omega.{arith}
-use lib.ListN.{length, getD, set, take, length-set}
-use lib.Seq.{take-suc}
+use lib.ListN.{length, getD, set, length-set}
 use lib.Dec.{T, eqb}
 use Rattle.rules.specs.Lists.{has, isNone}
 use Rattle.rules.specs.Tree.{Function}
 use Rattle.rules.specs.Records.{slotSizes, log2}
 use Rattle.rules.specs.File.{functionIn}
 use Rattle.rules.specs.Graph.{sizeOf}
-use Rattle.rules.specs.Slots.{StackSlots, noSlots, giveSlot}
+use Rattle.rules.specs.Slots.{StackSlots, giveSlot}
 use Rattle.lists.specs.Members.{here}
-use Rattle.lists.specs.Maps.{map-append}
-use Rattle.sharing.specs.SlotSteps.{SlotStep, gives, frees, freeOwn, taken, replayed, replayed-append}
+use Rattle.sharing.specs.SlotSteps.{gives, frees, freeOwn, taken}
 use Rattle.sharing.specs.Holding.{HasSlot, replayed-keeps, replayed-has}
 use Rattle.slots.specs.Classes.{index, bytes}
 use Rattle.slots.specs.declared.SlotSize.{SlotSize}
 use Rattle.rows.specs.Rows.{rowValues}
-use Rattle.planning.specs.Standing.{stepOf, noted, slotsBy}
 use Rattle.stackslots.specs.Tables.{SlotTables, slotTables, valueOf, SameLong, slotsAfter, Turn, Turned}
 use Rattle.stackslots.specs.Stepping.{slots-next}
 use Rattle.stackslots.proofs.Classes.{index-less, class-number}

@@ -7,7 +7,7 @@ use mathlib.Core.Option.{Option, none, some}
 use mathlib.Core.List.{List, [], _∷_, _++_}
 use native.Mathlib.Omega.{arith}
 use borrow.Author.Tests.{eq-eqb, ne-eqb}
-use lib.ListN.{length, getD, set, take, replicate, length-set, length-replicate, getD-replicate, length-append, List·getD-eq-default, List·getD-append}
+use lib.ListN.{length, getD, set, take, replicate, length-set, length-replicate, length-append, List·getD-eq-default, List·getD-append}
 use lib.Seq.{take-suc, take-length, take-suc-set, getD-set-same, getD-set-other, getD-append-seam}
 use lib.Dec.{T, eqb, eqb→eq, ltb, ltb→lt, nltb→le}
 use Rattle.rules.specs.Limits.{largestValues}
@@ -16,7 +16,7 @@ use Rattle.rules.specs.Tree.{Function}
 use Rattle.rules.specs.Records.{slotSizes, records}
 use Rattle.rules.specs.File.{functionIn, ordered}
 use Rattle.rules.specs.Graph.{sizeOf}
-use Rattle.rules.specs.Slots.{StackSlots, noSlots, slotFrom, giveSlot, freeSlot}
+use Rattle.rules.specs.Slots.{StackSlots, slotFrom, giveSlot, freeSlot}
 use Rattle.lists.specs.Tests.{test-elim, neqb→ne}
 use Rattle.lists.specs.Members.{_∈_, here, getD-∈}
 use Rattle.fixpoint.specs.Finding.{update-here}

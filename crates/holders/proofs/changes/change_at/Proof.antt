@@ -1,38 +1,28 @@
+-- `holders::changes::change_at` meets its contract.
 use Rattle.holders.specs.Table.{changeOf}
 use mathlib.Core.Path.{ap, _∙_}
 use borrow.Author.Needs.{needs}
 use Rattle.holders.proofs.changes.change_at.Statement.{statement}
 use Rattle.holders.proofs.changes.change_at.Tie as tie
-use Rattle.holders.proofs.changes.change_at.Reads as reads
-use Rattle.holders.proofs.changes.change_at.Lts as lts
-use Rattle.holders.proofs.changes.change_of.Reads as change-of-reads
-use Rattle.records.proofs.values.size_of.Reads as size-of-reads
 
--- src/changes.rt:46:17
 mul-noted : tie.Need-mul-noted
 mul-noted c = search needs
 
--- src/changes.rt:46:17
 shared-slice-read-noted : tie.Need-shared-slice-read-noted
 shared-slice-read-noted c = search needs
 
--- src/changes.rt:47:22
 mul-change-of : tie.Need-mul-change-of
 mul-change-of c = search needs
 
--- src/changes.rt:47:22
 shared-slice-read-change-of : tie.Need-shared-slice-read-change-of
 shared-slice-read-change-of c = search needs
 
--- src/changes.rt:47:33
 size-of-requires : tie.Need-size-of-requires
 size-of-requires c κs = search needs
 
--- src/changes.rt:47:5
 change-of-requires : tie.Need-change-of-requires
 change-of-requires c κs = search needs
 
--- src/changes.rt:42:1
 returns : tie.Need-returns
 returns c = c .change-of .ensures ∙ ap (changeOf _ _) (c .before .size-of .ensures)
 

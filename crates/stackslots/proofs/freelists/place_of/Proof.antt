@@ -1,21 +1,15 @@
+-- `stackslots::freelists::place_of` meets its contract.
 use Prim.Native.Nat.{_%_}
 use borrow.Author.Tests.{ne-eqb}
-use mathlib.Core.Path.{sym, ap}
-use mathlib.Core.Bool.{Bool, cond}
 use Rattle.stackslots.proofs.freelists.place_of.Statement.{statement}
 use Rattle.stackslots.proofs.freelists.place_of.Tie as tie
-use Rattle.stackslots.proofs.freelists.place_of.Reads as reads
-use Rattle.stackslots.proofs.freelists.place_of.Lts as lts
 
--- src/freelists.rt:77:9
 returns : tie.Need-returns
 returns c = simp (ne-eqb (c .before .args .noted % 2) 0 (c .if1 .taken))
 
--- src/freelists.rt:80:9
 returns-2 : tie.Need-returns-2
 returns-2 c = simp (c .before .if1 .left, ne-eqb (c .before .before .args .before) 0 (c .if2 .taken))
 
--- src/freelists.rt:73:1
 returns-3 : tie.Need-returns-3
 returns-3 c = simp (c .before .if1 .left, c .if2 .left)
 

@@ -9,91 +9,66 @@ use Rattle.rules.specs.Records.{slotSizes}
 use borrow.Author.Needs.{needs}
 use Rattle.stackslots.proofs.placing.give_slot.Statement.{statement}
 use Rattle.stackslots.proofs.placing.give_slot.Tie as tie
-use Rattle.stackslots.proofs.placing.give_slot.Reads as reads
-use Rattle.stackslots.proofs.placing.give_slot.Lts as lts
-use Rattle.records.proofs.values.size_of.Reads as size-of-reads
-use Rattle.stackslots.proofs.freelists.class_of.Reads as class-of-reads
-use Rattle.stackslots.proofs.freelists.make_new.Reads as make-new-reads
-use Rattle.stackslots.proofs.freelists.tag_of.Reads as tag-of-reads
-use Rattle.stackslots.proofs.freelists.take_freed.Reads as take-freed-reads
 
 -- the tables as they were lent
 abbrev tables : tie.Start → SlotTables
 tables c = slotTables (c .args .heads .now) (c .args .older .now) (c .args .tags .now) (c .args .made)
 
--- src/placing.rt:29:13
 mul-v : tie.Need-mul-v
 mul-v c = search needs
 
--- src/placing.rt:29:13
 shared-slice-read-v : tie.Need-shared-slice-read-v
 shared-slice-read-v c = search needs
 
--- src/placing.rt:30:8
 tag-of-requires : tie.Need-tag-of-requires
 tag-of-requires c κs = search needs
 
--- src/placing.rt:31:9
 same-length : tie.Need-same-length
 same-length c = search needs
 
--- src/placing.rt:31:9
 returns : tie.Need-returns
 returns c = turned-again (c .before .before .before .before .before .before .before .before .before .args .s .now) (c .before .before .before .before .before .before .before .before .before .args .steps .now) (c .before .before .before .before .before .before .before .before .before .args .i) (tables (c .before .before .before .before .before .before .before .before .before)) (c .before .before .before .before .before .before .before .before .before .pre .0) (c .before .before .before .before .before .before .before .before .before .pre .1) (omega (arith, c .if1 .taken, c .before .tag-of .ensures))
 
--- src/placing.rt:33:9
 size-of-requires : tie.Need-size-of-requires
 size-of-requires c κs = search needs
 
--- src/placing.rt:34:9
 class-of-requires : tie.Need-class-of-requires
 class-of-requires c κs = subst (λ n. T (has n slotSizes)) (sym (c .size-of .ensures)) (give-fits (c .before .before .before .before .before .before .before .before .before .before .args .s .now) (c .before .before .before .before .before .before .before .before .before .before .args .steps .now) (c .before .before .before .before .before .before .before .before .before .before .args .i) (tables (c .before .before .before .before .before .before .before .before .before .before)) (c .before .before .before .before .before .before .before .before .before .before .pre .0) (c .before .before .before .before .before .before .before .before .before .before .pre .1) .1)
 
--- src/placing.rt:35:8
 mul-if2 : tie.Need-mul-if2
 mul-if2 c = let low = c .class-of .ensures .1 in search (needs, low)
 
--- src/placing.rt:35:8
 slice-read-if2 : tie.Need-slice-read-if2
 slice-read-if2 c = omega (arith, c .before .class-of .ensures .1, c .before .before .before .before .before .before .before .before .before .before .before .before .pre .0 .room .heads)
 
--- src/placing.rt:36:25
 cast-make-new : tie.Need-cast-make-new
 cast-make-new c =
     let low = give-fits (c .before .before .before .before .before .before .before .before .before .before .before .before .before .args .s .now) (c .before .before .before .before .before .before .before .before .before .before .before .before .before .args .steps .now) (c .before .before .before .before .before .before .before .before .before .before .before .before .before .args .i) (tables (c .before .before .before .before .before .before .before .before .before .before .before .before .before)) (c .before .before .before .before .before .before .before .before .before .before .before .before .before .pre .0) (c .before .before .before .before .before .before .before .before .before .before .before .before .before .pre .1) .0 in
     search (needs, low)
 
--- src/placing.rt:36:9
 make-new-requires : tie.Need-make-new-requires
 make-new-requires c κs = make-room (c .before .before .before .before .before .before .before .before .before .before .before .before .before .before .args .s .now) (c .before .before .before .before .before .before .before .before .before .before .before .before .before .before .args .steps .now) (c .before .before .before .before .before .before .before .before .before .before .before .before .before .before .args .i) (tables (c .before .before .before .before .before .before .before .before .before .before .before .before .before .before)) (c .before .before .before .before .before .before .before .before .before .before .before .before .before .before .pre .0) (c .before .before .before .before .before .before .before .before .before .before .before .before .before .before .pre .1) (sym (c .before .before .before .before .before .before .tag-of .ensures) ∙ c .before .before .before .before .before .if1 .left) (c .before .before .before .before .size-of .result) (c .before .before .before .class-of .result) (c .before .before .before .before .size-of .ensures) (c .before .before .before .class-of .ensures .0)
 
--- src/placing.rt:36:9
 same-length-2 : tie.Need-same-length-2
 same-length-2 c = search needs
 
--- src/placing.rt:36:9
 returns-2 : tie.Need-returns-2
 returns-2 c = turned-made (c .before .before .before .before .before .before .before .before .before .before .before .before .before .before .before .before .before .args .s .now) (c .before .before .before .before .before .before .before .before .before .before .before .before .before .before .before .before .before .args .steps .now) (c .before .before .before .before .before .before .before .before .before .before .before .before .before .before .before .before .before .args .i) (tables (c .before .before .before .before .before .before .before .before .before .before .before .before .before .before .before .before .before)) (c .before .before .before .before .before .before .before .before .before .before .before .before .before .before .before .before .before .pre .0) (c .before .before .before .before .before .before .before .before .before .before .before .before .before .before .before .before .before .pre .1) (sym (c .before .before .before .before .before .before .before .before .before .tag-of .ensures) ∙ c .before .before .before .before .before .before .before .before .if1 .left) (c .before .before .before .before .before .before .before .size-of .result) (c .before .before .before .before .before .before .class-of .result) (c .before .before .before .before .before .before .before .size-of .ensures) (c .before .before .before .before .before .before .class-of .ensures .0) (c .before .before .before .before .if2 .taken) _ _ (c .before .before .make-new .ensures)
 
--- src/placing.rt:38:23
 cast-take-freed : tie.Need-cast-take-freed
 cast-take-freed c =
     let low = give-fits (c .before .before .before .before .before .before .before .before .before .before .before .before .before .args .s .now) (c .before .before .before .before .before .before .before .before .before .before .before .before .before .args .steps .now) (c .before .before .before .before .before .before .before .before .before .before .before .before .before .args .i) (tables (c .before .before .before .before .before .before .before .before .before .before .before .before .before)) (c .before .before .before .before .before .before .before .before .before .before .before .before .before .pre .0) (c .before .before .before .before .before .before .before .before .before .before .before .before .before .pre .1) .0 in
     search (needs, low)
 
--- src/placing.rt:38:5
 take-freed-requires : tie.Need-take-freed-requires
 take-freed-requires c κs = take-room (c .before .before .before .before .before .before .before .before .before .before .before .before .before .before .before .args .s .now) (c .before .before .before .before .before .before .before .before .before .before .before .before .before .before .before .args .steps .now) (c .before .before .before .before .before .before .before .before .before .before .before .before .before .before .before .args .i) (tables (c .before .before .before .before .before .before .before .before .before .before .before .before .before .before .before)) (c .before .before .before .before .before .before .before .before .before .before .before .before .before .before .before .pre .0) (c .before .before .before .before .before .before .before .before .before .before .before .before .before .before .before .pre .1) (sym (c .before .before .before .before .before .before .before .tag-of .ensures) ∙ c .before .before .before .before .before .before .if1 .left) (c .before .before .before .before .before .size-of .result) (c .before .before .before .before .class-of .result) (c .before .before .before .before .before .size-of .ensures) (c .before .before .before .before .class-of .ensures .0) (omega (arith, c .before .before .if2 .left))
 
--- src/placing.rt:17:1
 same-length-3 : tie.Need-same-length-3
 same-length-3 c = search needs
 
--- src/placing.rt:17:1
 same-length-4 : tie.Need-same-length-4
 same-length-4 c = search needs
 
--- src/placing.rt:17:1
 returns-3 : tie.Need-returns-3
 returns-3 c = turned-taken (c .before .before .before .before .before .before .before .before .before .before .before .before .before .before .before .before .before .before .before .before .args .s .now) (c .before .before .before .before .before .before .before .before .before .before .before .before .before .before .before .before .before .before .before .before .args .steps .now) (c .before .before .before .before .before .before .before .before .before .before .before .before .before .before .before .before .before .before .before .before .args .i) (tables (c .before .before .before .before .before .before .before .before .before .before .before .before .before .before .before .before .before .before .before .before)) (c .before .before .before .before .before .before .before .before .before .before .before .before .before .before .before .before .before .before .before .before .pre .0) (c .before .before .before .before .before .before .before .before .before .before .before .before .before .before .before .before .before .before .before .before .pre .1) (sym (c .before .before .before .before .before .before .before .before .before .before .before .before .tag-of .ensures) ∙ c .before .before .before .before .before .before .before .before .before .before .before .if1 .left) (c .before .before .before .before .before .before .before .before .before .before .size-of .result) (c .before .before .before .before .before .before .before .before .before .class-of .result) (c .before .before .before .before .before .before .before .before .before .before .size-of .ensures) (c .before .before .before .before .before .before .before .before .before .class-of .ensures .0) (omega (arith, c .before .before .before .before .before .before .before .if2 .left)) _ _ (c .before .before .before .before .take-freed .ensures)
 

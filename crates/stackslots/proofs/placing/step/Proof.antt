@@ -11,87 +11,63 @@ use Rattle.rules.specs.Records.{slotSizes}
 use borrow.Author.Needs.{needs}
 use Rattle.stackslots.proofs.placing.step.Statement.{statement}
 use Rattle.stackslots.proofs.placing.step.Tie as tie
-use Rattle.stackslots.proofs.placing.step.Reads as reads
-use Rattle.stackslots.proofs.placing.step.Lts as lts
-use Rattle.records.proofs.values.size_of.Reads as size-of-reads
-use Rattle.stackslots.proofs.freelists.class_of.Reads as class-of-reads
-use Rattle.stackslots.proofs.freelists.put_back.Reads as put-back-reads
-use Rattle.stackslots.proofs.freelists.tag_of.Reads as tag-of-reads
-use Rattle.stackslots.proofs.placing.give_slot.Reads as give-slot-reads
 
 -- the tables as they were lent
 abbrev tables : tie.Start → SlotTables
 tables c = slotTables (c .args .heads .now) (c .args .older .now) (c .args .tags .now) (c .args .made)
 
--- src/placing.rt:55:17
 mul-noted : tie.Need-mul-noted
 mul-noted c = search needs
 
--- src/placing.rt:55:17
 shared-slice-read-noted : tie.Need-shared-slice-read-noted
 shared-slice-read-noted c = search needs
 
--- src/placing.rt:57:9
 give-slot-requires : tie.Need-give-slot-requires
 give-slot-requires c κs = (c .before .before .before .before .before .before .before .before .before .before .pre, c .before .before .before .if1 .taken)
 
--- src/placing.rt:57:9
 same-length : tie.Need-same-length
 same-length c = search needs
 
--- src/placing.rt:57:9
 same-length-2 : tie.Need-same-length-2
 same-length-2 c = search needs
 
--- src/placing.rt:57:9
 same-length-3 : tie.Need-same-length-3
 same-length-3 c = search needs
 
--- src/placing.rt:57:9
 returns : tie.Need-returns
 returns c = c .before .before .before .before .give-slot .ensures
 
--- src/placing.rt:60:8
 tag-of-requires : tie.Need-tag-of-requires
 tag-of-requires c κs = search needs
 
--- src/placing.rt:61:27
 size-of-requires : tie.Need-size-of-requires
 size-of-requires c κs = search needs
 
--- src/placing.rt:61:18
 class-of-requires : tie.Need-class-of-requires
 class-of-requires c κs =
     let odd : getD (c .before .before .before .before .before .before .before .before .before .before .before .args .steps .now) (c .before .before .before .before .before .before .before .before .before .before .before .args .i) 0 % 2 ≡ 1 = omega (arith, c .before .before .before .before .if1 .left) in
     subst (λ n. T (has n slotSizes)) (sym (c .size-of .ensures)) (free-fits (c .before .before .before .before .before .before .before .before .before .before .before .args .s .now) (c .before .before .before .before .before .before .before .before .before .before .before .args .steps .now) (c .before .before .before .before .before .before .before .before .before .before .before .args .i) (tables (c .before .before .before .before .before .before .before .before .before .before .before)) (c .before .before .before .before .before .before .before .before .before .before .before .pre) odd (omega (arith, c .before .if2 .taken, c .before .before .tag-of .ensures)) .1)
 
--- src/placing.rt:61:9
 put-back-requires : tie.Need-put-back-requires
 put-back-requires c κs = (omega (arith, c .before .before .class-of .ensures .1, c .before .before .before .before .before .before .before .before .before .before .before .before .before .before .pre .room .heads), omega (arith, c .before .before .before .before .before .before .before .before .before .before .before .before .before .before .pre .room .older))
 
--- src/placing.rt:43:1
 same-length-4 : tie.Need-same-length-4
 same-length-4 c = search needs
 
--- src/placing.rt:43:1
 same-length-5 : tie.Need-same-length-5
 same-length-5 c = search needs
 
--- src/placing.rt:43:1
 same-length-6 : tie.Need-same-length-6
 same-length-6 c = search needs
 
--- src/placing.rt:43:1
 returns-2 : tie.Need-returns-2
 returns-2 c =
     let odd : getD (c .before .before .before .before .before .before .before .before .before .before .before .before .before .before .before .before .before .before .before .args .steps .now) (c .before .before .before .before .before .before .before .before .before .before .before .before .before .before .before .before .before .before .before .args .i) 0 % 2 ≡ 1 = omega (arith, c .before .before .before .before .before .before .before .before .before .before .before .before .if1 .left) in
     turned-freed (c .before .before .before .before .before .before .before .before .before .before .before .before .before .before .before .before .before .before .before .args .s .now) (c .before .before .before .before .before .before .before .before .before .before .before .before .before .before .before .before .before .before .before .args .steps .now) (c .before .before .before .before .before .before .before .before .before .before .before .before .before .before .before .before .before .before .before .args .i) (tables (c .before .before .before .before .before .before .before .before .before .before .before .before .before .before .before .before .before .before .before)) (c .before .before .before .before .before .before .before .before .before .before .before .before .before .before .before .before .before .before .before .pre) odd (omega (arith, c .before .before .before .before .before .before .before .before .before .if2 .taken, c .before .before .before .before .before .before .before .before .before .before .tag-of .ensures)) (c .before .before .before .before .before .before .before .before .size-of .result) (c .before .before .before .before .before .before .before .class-of .result) (c .before .before .before .before .before .before .before .before .size-of .ensures) (c .before .before .before .before .before .before .before .class-of .ensures .0) _ _ (c .before .before .before .before .put-back .ensures)
 
--- src/placing.rt:43:1
 same-length-7 : tie.Need-same-length-7
 same-length-7 c = search needs
 
--- src/placing.rt:43:1
 returns-3 : tie.Need-returns-3
 returns-3 c =
     let odd : getD (c .before .before .before .before .before .before .before .before .before .before .args .steps .now) (c .before .before .before .before .before .before .before .before .before .before .args .i) 0 % 2 ≡ 1 = omega (arith, c .before .before .before .if1 .left) in
