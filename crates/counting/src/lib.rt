@@ -12,7 +12,8 @@ ghost use Rattle.rows.specs.Rows.{rows, size};
 ghost use Rattle.listing.specs.Tables.{IndexTables};
 ghost use Rattle.counting.specs.Weights.{weight, weighed, besideRecords};
 ghost use Rattle.counting.specs.Totals.{blockAdded};
-use records::kind_at;
+use records::kind_of;
+use records::record_at;
 use rows::count;
 
 // What the tag beside a record of a kind adds.
@@ -40,7 +41,7 @@ fn count_between(s: &[u8], numbers: &[u32], start: usize, end: usize) -> usize
     let mut found: usize = 0;
     let mut i = start;
     while i < end {
-        found += weight_of(kind_at(s, i), numbers[i]);
+        found += weight_of(kind_of(record_at(s, i)), numbers[i]);
         i += 1;
     }
     found

@@ -9,7 +9,7 @@ ghost use Rattle.writing.specs.Parts.{Readable};
 ghost use Rattle.writing.specs.Places.{fromTo};
 ghost use Rattle.writing.specs.Wrote.{room, Wrote};
 ghost use Rattle.layout.specs.BlockRuns.{numberAt, instructionIf, instructionPartAt, landingPartAt, headRun, blockRun, copyAt};
-use records::kind_at;
+use records::kind_of;
 use records::record_at;
 use writing::parts::Part;
 use writing::put::put;
@@ -35,7 +35,7 @@ fn put_instruction_at(
     requires { ⌜ Readable (now s) (now numbers) × (p < end) × (end ≤ recordCount (now s)) × (kind (recordAt (now s) p) ≡ 4 → HasRow (now lists) i) × (values ≤ rowValues) × (room (instructionIf (now s) (now numbers) (now slots) values (rows (now lists) i) end p) ≤ length (now out)) ⌝ }
     ensures { λ r. ⌜ Wrote (now (out .entry)) (instructionIf (now (s .entry)) (now (numbers .entry)) (now (slots .entry)) values (rows (now (lists .entry)) i) end p) r (now (out .exit)) ⌝ }
 {
-    if kind_at(s, p) == 4 {
+    if kind_of(record_at(s, p)) == 4 {
         let next = next_place(s, 4, p + 1, end);
         return put_instruction(s, numbers, slots, lists, values, i, p, next, out);
     }
@@ -47,7 +47,7 @@ fn number_behind(s: &[u8], p: usize, number: usize) -> usize
     requires { ⌜ (p < recordCount (now s)) × (number ≡ numberAt (now s) p) ⌝ }
     ensures { λ r. ⌜ r ≡ numberAt (now (s .entry)) (p + 1) ⌝ }
 {
-    if kind_at(s, p) == 4 {
+    if kind_of(record_at(s, p)) == 4 {
         return number + 1;
     }
     number
@@ -102,7 +102,7 @@ fn put_landings_at(
     requires { ⌜ Readable (now s) (now numbers) × (p < end) × (end ≤ recordCount (now s)) × (room (landingPartAt (now s) (now numbers) (now slots) end p) ≤ length (now out)) ⌝ }
     ensures { λ r. ⌜ Wrote (now (out .entry)) (landingPartAt (now (s .entry)) (now (numbers .entry)) (now (slots .entry)) end p) r (now (out .exit)) ⌝ }
 {
-    if kind_at(s, p) == 4 {
+    if kind_of(record_at(s, p)) == 4 {
         let next = next_place(s, 4, p + 1, end);
         return put_edges(s, numbers, slots, EdgePart::Landing, p + 1, next, out);
     }

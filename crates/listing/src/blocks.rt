@@ -15,7 +15,8 @@ ghost use Rattle.listing.specs.Listed.{together};
 ghost use Rattle.listing.specs.Tables.{ListTables};
 ghost use Rattle.listing.specs.Stepping.{headsFrom, instructionsFrom, spotAt, liveAt, listsAt, Opened, BlockRecords};
 use crate::instructions::list_instruction;
-use records::kind_at;
+use records::kind_of;
+use records::record_at;
 use rows::copy_row;
 use rows::join;
 use rules::ROW_WORDS;
@@ -35,7 +36,7 @@ pub fn count_instructions(s: &[u8], start: usize, end: usize) -> usize
     let mut p = end;
     while p > start {
         p -= 1;
-        if kind_at(s, p) == 4 {
+        if kind_of(record_at(s, p)) == 4 {
             count += 1;
         }
     }
@@ -47,7 +48,7 @@ fn list_at(s: &[u8], p: usize, at: Spot, live: &mut [u64], lists: &mut [u64]) ->
     requires { ⌜ InRows (now s) × (p < at .end) × (at .end ≤ recordCount (now s)) × Opened (now s) p at × HasRow (now live) 0 × (rowWords * at .number ≤ length (now lists)) ⌝ }
     ensures { λ r. ⌜ (r ≡ spotAt (now (s .entry)) p at) × (rows (now (live .exit)) ≡ liveAt (now (s .entry)) p at (rows (now (live .entry)))) × (rows (now (lists .exit)) ≡ listsAt (now (s .entry)) p at (rows (now (live .entry))) (rows (now (lists .entry)))) ⌝ }
 {
-    if kind_at(s, p) == 4 {
+    if kind_of(record_at(s, p)) == 4 {
         let i = at.number - 1;
         list_instruction(s, p, at.end, live, lists, i);
         return Spot { end: p, number: i };

@@ -18,7 +18,7 @@ ghost use Rattle.blocksets.specs.InRows.{InRows};
 ghost use Rattle.listing.specs.Crossings.{put, crossing};
 ghost use Rattle.listing.specs.Across.{behindArguments, sectionAt};
 use blocksets::operands::go_back;
-use records::kind_at;
+use records::kind_of;
 use records::record_at;
 use records::words_of;
 use rows::copy_row;
@@ -39,7 +39,7 @@ fn behind_arguments(s: &[u8], from: usize, end: usize) -> usize
 {
     let mut i = from;
     while i < end {
-        if kind_at(s, i) != 6 {
+        if kind_of(record_at(s, i)) != 6 {
             return i;
         }
         i += 1;

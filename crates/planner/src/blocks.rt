@@ -17,7 +17,8 @@ use listing::blocks::count_instructions;
 use planning::Progress;
 use planning::asks::ask_all;
 use planning::runs::plan_definitions;
-use records::kind_at;
+use records::kind_of;
+use records::record_at;
 use spiller::instructions::InstructionSpot;
 use spiller::instructions::plan_instruction;
 use spiller::instructions::run_end;
@@ -39,7 +40,7 @@ fn last_instruction(s: &[u8], front: usize, end: usize) -> usize
     let mut i = end;
     while i > front {
         i -= 1;
-        if kind_at(s, i) == 4 {
+        if kind_of(record_at(s, i)) == 4 {
             return i;
         }
     }

@@ -17,7 +17,7 @@ use planning::asks::ask_all;
 use planning::runs::plan_definitions;
 use planning::runs::plan_uses;
 use planning_edges::edges::plan_edges;
-use records::kind_at;
+use records::kind_of;
 use records::record_at;
 
 // Where an instruction stands: its own place, the one behind its records, and its number.
@@ -34,7 +34,7 @@ pub fn run_end(s: &[u8], kind: u32, from: usize, end: usize) -> usize
 {
     let mut i = from;
     while i < end {
-        if kind_at(s, i) != kind {
+        if kind_of(record_at(s, i)) != kind {
             return i;
         }
         i += 1;

@@ -14,8 +14,8 @@ use Rattle.writing.specs.Parts.{slotIn, partIf, partAt}
 
 -- what is found for the words read at a place is what the part has there
 pub part-here :
-    (s numbers slots : List ℕ) (k : ℕ) (a : Part) (i : ℕ) (rs : List Record) (w : Words)
-    → rs ≡ partIf (sizeOf (functionIn s)) (slotIn slots) k a w (made (getD numbers i 0)) → w ≡ encode (recordAt s i)
+    (s numbers slots : List ℕ) (k : ℕ) (a : Part) (i : ℕ) (rs : List Record) (w : Words) (r : Record)
+    → rs ≡ partIf (sizeOf (functionIn s)) (slotIn slots) k a w (made (getD numbers i 0)) → w ≡ encode r → r ≡ recordAt s i
     → rs ≡ partAt s numbers slots k a i
-part-here s numbers slots k a i rs w found read =
-    found ∙ ap (λ (x : Words). partIf (sizeOf (functionIn s)) (slotIn slots) k a x (made (getD numbers i 0))) read
+part-here s numbers slots k a i rs w r found words read =
+    found ∙ ap (λ (x : Words). partIf (sizeOf (functionIn s)) (slotIn slots) k a x (made (getD numbers i 0))) (words ∙ ap encode read)

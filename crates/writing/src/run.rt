@@ -10,8 +10,9 @@ ghost use Rattle.writing.specs.Wrote.{room, Wrote};
 use crate::parts::Part;
 use crate::parts::part_if;
 use crate::put::put_written;
-use records::kind_at;
-use records::words_at;
+use records::kind_of;
+use records::record_at;
+use records::words_of;
 
 // The place of the first record of a kind from a place on and before place end, or end.
 pub fn next_place(s: &[u8], kind: u32, from: usize, end: usize) -> usize
@@ -20,7 +21,7 @@ pub fn next_place(s: &[u8], kind: u32, from: usize, end: usize) -> usize
 {
     let mut i = from;
     while i < end {
-        if kind_at(s, i) == kind {
+        if kind_of(record_at(s, i)) == kind {
             return i;
         }
         i += 1;
@@ -45,7 +46,7 @@ pub fn put_parts(
     let mut at = 0;
     let mut i = from;
     while i < end {
-        let w = part_if(s, slots, kind, part, words_at(s, i), numbers[i]);
+        let w = part_if(s, slots, kind, part, words_of(record_at(s, i)), numbers[i]);
         let n = put_written(&mut out[at..], w);
         at += n;
         i += 1;
