@@ -13,8 +13,9 @@ ghost use Rattle.graph.specs.Between.{between};
 ghost use Rattle.graph.specs.Links.{Walked};
 ghost use Rattle.graph.specs.Tables.{Given};
 ghost use Rattle.acceptance.specs.Marked.{blockMarked};
+use records::record_at;
 use records::values::is_marked;
-use records::words_at;
+use records::words_of;
 use rules::Words;
 
 // Whether four words are a context that is marked.
@@ -35,7 +36,7 @@ fn marked_between(s: &[u8], start: usize, end: usize) -> bool
 {
     let mut i = start;
     while i < end {
-        if is_marked_context(s, words_at(s, i)) {
+        if is_marked_context(s, words_of(record_at(s, i))) {
             return true;
         }
         i += 1;

@@ -10,7 +10,8 @@ ghost use Rattle.rules.specs.File.{functionIn};
 ghost use Rattle.rules.specs.Refusals.{definedOnce};
 ghost use Rattle.checks.specs.Definitions.{defines, noted, notedAll, Countable};
 use crate::numbers::kind_count;
-use records::words_at;
+use records::record_at;
+use records::words_of;
 use rules::RECORD_BYTES;
 use rules::Words;
 
@@ -43,7 +44,7 @@ pub fn count_definitions(s: &[u8], counts: &mut [u32])
     let n = s.len() / RECORD_BYTES;
     let mut i: usize = 0;
     while i < n {
-        note_definition(words_at(s, i), counts);
+        note_definition(words_of(record_at(s, i)), counts);
         i += 1;
     }
 }

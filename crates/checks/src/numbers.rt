@@ -9,8 +9,9 @@ ghost use Rattle.rules.specs.File.{ofKind, ordered, functionIn};
 ghost use Rattle.rules.specs.Refusals.{numbersInFile};
 ghost use Rattle.checks.specs.Numbers.{numbersFit};
 use crate::counts::one_if_same;
-use records::kind_at;
-use records::words_at;
+use records::kind_of;
+use records::record_at;
+use records::words_of;
 use rules::RECORD_BYTES;
 use rules::Words;
 
@@ -22,7 +23,7 @@ pub fn kind_count(s: &[u8], k: u32) -> usize
     let mut found: usize = 0;
     let mut i: usize = 0;
     while i < n {
-        found += one_if_same(kind_at(s, i), k);
+        found += one_if_same(kind_of(record_at(s, i)), k);
         i += 1;
     }
     found
@@ -73,7 +74,7 @@ pub fn not_in_file(s: &[u8]) -> bool
     let blocks = kind_count(s, 2);
     let mut i: usize = 0;
     while i < n {
-        if !numbers_fit(words_at(s, i), values, blocks) {
+        if !numbers_fit(words_of(record_at(s, i)), values, blocks) {
             return true;
         }
         i += 1;

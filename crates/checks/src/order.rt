@@ -3,14 +3,15 @@ ghost use mathlib.Core.Path.{_≡_};
 ghost use Prim.Native.Nat.{_<_};
 ghost use mathlib.Core.Bool.{not, _&&_, _||_};
 ghost use lib.Dec.{eqb};
-ghost use Rattle.rules.specs.Records.{records};
+ghost use Rattle.rules.specs.Records.{encode, kind, records};
 ghost use Rattle.rules.specs.File.{follows, ordered, functionIn};
 ghost use Rattle.rules.specs.Refusals.{numberedFrom};
 use crate::counts::one_if_same;
-use records::kind_at;
-use records::words_at;
+use records::kind_of;
+use records::record_at;
+use records::words_of;
 use rules::RECORD_BYTES;
-use rules::Words;
+use rules::Record;
 
 // The kinds that may stand behind a kind, kind k at bit k; row 0 is the start of the file, and behind an output's kinds
 // nothing may stand.
@@ -50,7 +51,7 @@ pub fn in_order(s: &[u8]) -> bool
     let mut p: u32 = 0;
     let mut i: usize = 0;
     while i < n {
-        let k = kind_at(s, i);
+        let k = kind_of(record_at(s, i));
         if !may_follow(p, k) {
             return false;
         }
@@ -61,9 +62,10 @@ pub fn in_order(s: &[u8]) -> bool
 }
 
 // Whether a record that opens a block has this number; another record has any.
-fn numbered_as(w: Words, number: usize) -> bool
-    ensures { λ x. ⌜ x ≡ (not (eqb 2 (w .kind)) || eqb (w .third) number) ⌝ }
+fn numbered_as(r: Record, number: usize) -> bool
+    ensures { λ x. ⌜ x ≡ (not (eqb 2 (kind r)) || eqb (encode r .third) number) ⌝ }
 {
+    let w = words_of(r);
     if w.kind != 2 {
         return true;
     }
@@ -78,11 +80,11 @@ pub fn blocks_numbered(s: &[u8]) -> bool
     let mut number: usize = 0;
     let mut i: usize = 0;
     while i < n {
-        let w = words_at(s, i);
-        if !numbered_as(w, number) {
+        let r = record_at(s, i);
+        if !numbered_as(r, number) {
             return false;
         }
-        number += one_if_same(2, w.kind);
+        number += one_if_same(2, kind_of(r));
         i += 1;
     }
     true

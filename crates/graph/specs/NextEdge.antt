@@ -12,12 +12,9 @@ use Rattle.rules.specs.declared.Record.{Record}
 use Rattle.graph.specs.declared.edges.NextEdge.{NextEdge}
 use Rattle.graph.specs.Between.{between, between-none, between-more}
 
--- the tag of four words, and of a record
-abbrev pub tagOfWords : Words → ℕ
-tagOfWords w = elim (eqb (w .kind) 7) [ true ↦ suc (w .second) | false ↦ 0 ]
-
+-- the tag of a record
 abbrev pub edgeTag : Record → ℕ
-edgeTag r = tagOfWords (encode r)
+edgeTag r = elim (eqb (kind r) 7) [ true ↦ suc (encode r .second) | false ↦ 0 ]
 
 -- an edge by its tag and the place behind it, or else another
 abbrev pub edgeOr : ℕ → ℕ → NextEdge → NextEdge

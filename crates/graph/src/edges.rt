@@ -2,9 +2,9 @@
 ghost use mathlib.Core.Path.{_≡_};
 ghost use Prim.Native.Nat.{_≤_, _<_, _^_};
 ghost use Rattle.rules.specs.Records.{recordCount};
-ghost use Rattle.graph.specs.NextEdge.{tagOfWords, edgeFrom};
-use records::words_at;
-use rules::Words;
+ghost use Rattle.graph.specs.NextEdge.{edgeTag, edgeFrom};
+use records::record_at;
+use rules::Record;
 
 // An edge by its tag, which is one more than its target, and the place behind its record; the tag 0 is no edge.
 pub struct NextEdge {
@@ -18,14 +18,14 @@ fn wide(x: u32) -> usize
     x as usize
 }
 
-// One more than the target of an edge, 0 for the words of another record.
-fn edge_tag(w: Words) -> usize
-    ensures { λ t. ⌜ t ≡ tagOfWords w ⌝ }
+// One more than the target of an edge, 0 for another record.
+fn edge_tag(r: Record) -> usize
+    ensures { λ t. ⌜ t ≡ edgeTag r ⌝ }
 {
-    if w.kind == 7 {
-        return wide(w.second) + 1;
+    match r {
+        Record::Edge(target) => wide(target) + 1,
+        _ => 0,
     }
-    0
 }
 
 // The first edge from a place on and before place end.
@@ -35,7 +35,7 @@ pub fn next_edge(s: &[u8], from: usize, end: usize) -> NextEdge
 {
     let mut i = from;
     while i < end {
-        let tag = edge_tag(words_at(s, i));
+        let tag = edge_tag(record_at(s, i));
         i += 1;
         if tag != 0 {
             return NextEdge { tag, behind: i };

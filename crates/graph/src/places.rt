@@ -8,7 +8,8 @@ ghost use Rattle.rules.specs.Lists.{padded};
 ghost use Rattle.graph.specs.Zeros.{Zeros};
 ghost use Rattle.graph.specs.Sections.{placeIf};
 ghost use Rattle.graph.specs.Placed.{placesOf, placeTable};
-use records::kind_at;
+use records::kind_of;
+use records::record_at;
 use rules::RECORD_BYTES;
 
 // Notes place i behind the places found so far, if it is wanted. Answers how many are found then.
@@ -32,7 +33,7 @@ pub fn places_of(s: &[u8], k: u32, places: &mut [usize]) -> usize
     let mut found: usize = 0;
     let mut i: usize = 0;
     while i < n {
-        found = note(places, found, kind_at(s, i) == k, i);
+        found = note(places, found, kind_of(record_at(s, i)) == k, i);
         i += 1;
     }
     places[found] = n;

@@ -2,7 +2,8 @@
 ghost use mathlib.Core.Path.{_≡_};
 ghost use Rattle.rules.specs.Records.{records};
 ghost use Rattle.soundness.specs.Standing.{safepointFlags, mayStand, flagsBehind, standing};
-use records::words_at;
+use records::record_at;
+use records::words_of;
 use rules::RECORD_BYTES;
 use rules::Words;
 
@@ -57,7 +58,7 @@ pub fn all_stand(s: &[u8]) -> bool
     let mut flags: u32 = 2;
     let mut i: usize = 0;
     while i < n {
-        let w = words_at(s, i);
+        let w = words_of(record_at(s, i));
         if !may_stand(flags, w) {
             return false;
         }

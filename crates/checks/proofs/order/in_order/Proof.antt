@@ -21,17 +21,20 @@ abbrev μ-loop : tie.MeasureT-loop
 loop-holds : tie.Need-loop-holds Inv-loop μ-loop
 loop-holds c = (search needs, search needs, ap (ordered 0) (rest-all (c .before .args .s .now)))
 
-kind-at-requires : tie.Need-kind-at-requires Inv-loop μ-loop
-kind-at-requires c κs = search needs
+record-at-requires : tie.Need-record-at-requires Inv-loop μ-loop
+record-at-requires c κs = search needs
+
+kind-of-requires : tie.Need-kind-of-requires Inv-loop μ-loop
+kind-of-requires c κs = search needs
 
 may-follow-requires : tie.Need-may-follow-requires Inv-loop μ-loop
 may-follow-requires c κs = search needs
 
 returns : tie.Need-returns Inv-loop μ-loop
 returns c =
-    let k : c .before .before .kind-at .result ≡ kind (recordAt (c .before .before .before .before .before .before .args .s .now) (c .before .before .before .before .loop .i)) = cc in
-    let f : follows (c .before .before .before .before .loop .p) (c .before .before .kind-at .result) ≡ false = sym (c .before .may-follow .ensures) ∙ not-true (c .before .may-follow .result) (c .if1 .taken) in
-    sym (order-stops (c .before .before .before .before .before .before .args .s .now) (c .before .before .before .before .loop .p) (c .before .before .before .before .loop .i) (c .before .before .kind-at .result) (search needs) k f) ∙ c .before .before .before .before .loop .inv .2
+    let k : c .before .before .kind-of .result ≡ kind (recordAt (c .before .before .before .before .before .before .before .args .s .now) (c .before .before .before .before .before .loop .i)) = cc in
+    let f : follows (c .before .before .before .before .before .loop .p) (c .before .before .kind-of .result) ≡ false = sym (c .before .may-follow .ensures) ∙ not-true (c .before .may-follow .result) (c .if1 .taken) in
+    sym (order-stops (c .before .before .before .before .before .before .before .args .s .now) (c .before .before .before .before .before .loop .p) (c .before .before .before .before .before .loop .i) (c .before .before .kind-of .result) (search needs) k f) ∙ c .before .before .before .before .before .loop .inv .2
 
 add-i : tie.Need-add-i Inv-loop μ-loop
 add-i c = search needs
@@ -41,9 +44,9 @@ loop-less c = search needs
 
 loop-again : tie.Need-loop-again Inv-loop μ-loop
 loop-again c =
-    let k : c .before .before .kind-at .result ≡ kind (recordAt (c .before .before .before .before .before .before .args .s .now) (c .before .before .before .before .loop .i)) = cc in
-    let f : follows (c .before .before .before .before .loop .p) (c .before .before .kind-at .result) ≡ true = sym (c .before .may-follow .ensures) ∙ not-false (c .before .may-follow .result) (c .if1 .left) in
-    (search needs, search needs, sym (order-goes (c .before .before .before .before .before .before .args .s .now) (c .before .before .before .before .loop .p) (c .before .before .before .before .loop .i) (c .before .before .kind-at .result) (search needs) k f) ∙ c .before .before .before .before .loop .inv .2)
+    let k : c .before .before .kind-of .result ≡ kind (recordAt (c .before .before .before .before .before .before .before .args .s .now) (c .before .before .before .before .before .loop .i)) = cc in
+    let f : follows (c .before .before .before .before .before .loop .p) (c .before .before .kind-of .result) ≡ true = sym (c .before .may-follow .ensures) ∙ not-false (c .before .may-follow .result) (c .if1 .left) in
+    (search needs, search needs, sym (order-goes (c .before .before .before .before .before .before .before .args .s .now) (c .before .before .before .before .before .loop .p) (c .before .before .before .before .before .loop .i) (c .before .before .kind-of .result) (search needs) k f) ∙ c .before .before .before .before .before .loop .inv .2)
 
 returns-2 : tie.Need-returns-2 Inv-loop μ-loop
 returns-2 c =
@@ -57,7 +60,8 @@ in-order-spec =
     Inv-loop
     μ-loop
     loop-holds
-    kind-at-requires
+    record-at-requires
+    kind-of-requires
     may-follow-requires
     returns
     add-i

@@ -1,7 +1,7 @@
 -- `graph::edges::next_edge` meets its contract.
 use borrow.Author.Needs.{needs}
 use Rattle.graph.proofs.Looking.{edgeFrom-here, edgeFrom-later, edgeFrom-end}
-use Rattle.graph.specs.NextEdge.{edgeTag, tagOfWords, edgeFrom}
+use Rattle.graph.specs.NextEdge.{edgeTag, edgeFrom}
 use Rattle.rules.specs.Records.{recordAt}
 use native.Mathlib.Omega.{arith}
 use mathlib.Core.Path.{_≡_, refl, sym, ap, _∙_}
@@ -18,8 +18,8 @@ abbrev μ-loop : tie.MeasureT-loop
 loop-holds : tie.Need-loop-holds Inv-loop μ-loop
 loop-holds c = (search needs, refl)
 
-words-at-requires : tie.Need-words-at-requires Inv-loop μ-loop
-words-at-requires c κs = search needs
+record-at-requires : tie.Need-record-at-requires Inv-loop μ-loop
+record-at-requires c κs = search needs
 
 edge-tag-requires : tie.Need-edge-tag-requires Inv-loop μ-loop
 edge-tag-requires c κs = search needs
@@ -32,9 +32,9 @@ returns c =
     let start = c .before .before .before .before .before .before in
     let loop = c .before .before .before .before .loop in
     let test = c .before .before .before .loop-test in
-    let words-at = c .before .before .words-at in
+    let record-at = c .before .before .record-at in
     let s = start .args .s .now in
-    let e : c .before .edge-tag .result ≡ edgeTag (recordAt s (loop .i)) = c .before .edge-tag .ensures ∙ ap tagOfWords (words-at .ensures) in
+    let e : c .before .edge-tag .result ≡ edgeTag (recordAt s (loop .i)) = c .before .edge-tag .ensures ∙ ap edgeTag (record-at .ensures) in
     sym (edgeFrom-here s (loop .i) (start .args .end) (c .before .edge-tag .result) (test .taken) (start .pre .1) e (c .if1 .taken)) ∙ loop .inv .1
 
 loop-less : tie.Need-loop-less Inv-loop μ-loop
@@ -45,9 +45,9 @@ loop-again c =
     let start = c .before .before .before .before .before .before in
     let loop = c .before .before .before .before .loop in
     let test = c .before .before .before .loop-test in
-    let words-at = c .before .before .words-at in
+    let record-at = c .before .before .record-at in
     let s = start .args .s .now in
-    let e : c .before .edge-tag .result ≡ edgeTag (recordAt s (loop .i)) = c .before .edge-tag .ensures ∙ ap tagOfWords (words-at .ensures) in
+    let e : c .before .edge-tag .result ≡ edgeTag (recordAt s (loop .i)) = c .before .edge-tag .ensures ∙ ap edgeTag (record-at .ensures) in
     (search needs, sym (edgeFrom-later s (loop .i) (start .args .end) (c .before .edge-tag .result) (test .taken) (start .pre .1) e (c .if1 .left)) ∙ loop .inv .1)
 
 returns-2 : tie.Need-returns-2 Inv-loop μ-loop
@@ -62,7 +62,7 @@ next-edge-spec =
     Inv-loop
     μ-loop
     loop-holds
-    words-at-requires
+    record-at-requires
     edge-tag-requires
     add-i
     returns
