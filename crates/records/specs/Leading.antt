@@ -5,6 +5,7 @@ use mathlib.Core.Path.{_≡_, refl, sym, ap, subst, _∙_}
 use mathlib.Core.Bool.{Bool, true, false, not, _&&_, _||_}
 use mathlib.Core.List.{List, [], _∷_}
 use native.Mathlib.Omega.{arith}
+use native.Mathlib.Numerals.{add-one}
 use lib.ListN.{getD}
 use lib.Dec.{T, T-not, eqb, eqb→eq}
 use Rattle.rules.specs.Lists.{all, has}
@@ -90,3 +91,7 @@ module _ (s : List ℕ) (h : T (ordered 0 (records s))) where
       let p = kind (recordAt s i) in
       and-right (follows p (kind r)) (chain (kind r) (rest s (suc (suc i))))
       (subst (λ rs. T (chain p rs)) (rest-more s (suc i) l) (chain-behind i (omega arith)))
+
+  -- the same by the code's sum
+  pub chain-next : (i : ℕ) → i < recordCount s → T (chain (kind (recordAt s i)) (rest s (i + 1)))
+  chain-next i l = rw (add-one i) (chain-behind i l)

@@ -6,4 +6,3 @@ pub mod Parts
 pub mod Leading
 pub mod Values
 pub mod Writing
-pub mod Table

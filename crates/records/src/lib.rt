@@ -8,7 +8,6 @@ ghost use mathlib.Core.List.{_++_};
 ghost use Rattle.rules.specs.Limits.{recordBytes};
 ghost use Rattle.rules.specs.Lists.{has};
 ghost use Rattle.rules.specs.Records.{wordAt, slotSizes, log2, edgeArgument, bit, words as wordsAre, encode, kind, decode, recordAt, bytesOfWord, bytesOfRecord};
-ghost use Rattle.records.specs.Table.{fitsBesides, wordsFit};
 ghost use Rattle.records.specs.Writing.{putFrom};
 ghost use Rattle.rules.specs.declared.Record.the-variants.{Outside, EdgeArgument as RecordOfArgument};
 use rules::EdgeArgument;
@@ -169,116 +168,6 @@ pub fn record_at(s: &[u8], k: usize) -> Record
         word_at(s, i + 8),
         word_at(s, i + 12),
     )
-}
-
-// The largest word, where any may stand.
-const ANY: u32 = 4294967295;
-
-// The largest word 2, 3 and 4 of each kind, 0 where a word is unused; kind 0 is that of no record.
-const LARGEST_SECOND: [u32; 16] = [
-    0,
-    64,
-    1,
-    ANY,
-    3,
-    ANY,
-    ANY,
-    ANY,
-    2,
-    ANY,
-    ANY,
-    ANY,
-    ANY,
-    ANY,
-    ANY,
-    0,
-];
-
-const LARGEST_THIRD: [u32; 16] = [
-    0,
-    1,
-    ANY,
-    0,
-    ANY,
-    0,
-    0,
-    0,
-    ANY,
-    0,
-    ANY,
-    ANY,
-    ANY,
-    ANY,
-    ANY,
-    0,
-];
-
-const LARGEST_FOURTH: [u32; 16] = [0, 0, 0, 0, 0, 0, 0, 0, 0, 0, 0, 0, 0, 0, ANY, 0];
-
-// What is asked besides: a value's size is not 0, and a slot's words are a size and its logarithm.
-fn fits_besides(k: u32, a: u32, b: u32) -> bool
-    ensures { λ r. ⌜ r ≡ fitsBesides k a b ⌝ }
-{
-    if k == 1 {
-        return 1 <= a;
-    }
-    if k == 10 {
-        return fits_slot(a, b);
-    }
-    true
-}
-
-// Whether four words are a record of the table, or all 0.
-fn words_fit(k: u32, a: u32, b: u32, c: u32) -> bool
-    ensures { λ r. ⌜ r ≡ wordsFit k a b c ⌝ }
-{
-    if 15 < k {
-        return false;
-    }
-    let row = k as usize;
-    if LARGEST_FOURTH[row] < c {
-        return false;
-    }
-    if !fits_besides(k, a, b) {
-        return false;
-    }
-    if LARGEST_SECOND[row] < a {
-        return false;
-    }
-    b <= LARGEST_THIRD[row]
-}
-
-// The words of the record that four words are: they themselves, or zeros where they are none. No record is made on the way.
-fn words_kept(k: u32, a: u32, b: u32, c: u32) -> Words
-    ensures { λ w. ⌜ w ≡ encode (decode k a b c) ⌝ }
-{
-    if words_fit(k, a, b, c) {
-        return words(k, a, b, c);
-    }
-    words(0, 0, 0, 0)
-}
-
-// The words of record k of a file, zeros where it is outside the table.
-pub fn words_at(s: &[u8], k: usize) -> Words
-    requires { ⌜ recordBytes * k + recordBytes ≤ length (now s) ⌝ }
-    ensures { λ w. ⌜ w ≡ encode (recordAt (now (s .entry)) k) ⌝ }
-{
-    let i = RECORD_BYTES * k;
-    words_kept(
-        word_at(s, i),
-        word_at(s, i + 4),
-        word_at(s, i + 8),
-        word_at(s, i + 12),
-    )
-}
-
-// The kind of record k of a file, 0 where it is outside the table.
-pub fn kind_at(s: &[u8], k: usize) -> u32
-    requires { ⌜ recordBytes * k + recordBytes ≤ length (now s) ⌝ }
-    ensures { λ r. ⌜ (r ≡ kind (recordAt (now (s .entry)) k)) × (r < 16) ⌝ }
-{
-    let w = words_at(s, k);
-    w.kind
 }
 
 // 0 or 1, for a table's flag.

@@ -7,7 +7,7 @@ ghost use Rattle.rules.specs.File.{ordered, functionIn};
 ghost use Rattle.rules.specs.Graph.{sizeOf, isMarked};
 ghost use Rattle.rules.specs.declared.Record.the-variants.{Outside};
 ghost use Rattle.records.specs.Values.{sizeIn, markIn};
-use crate::words_at;
+use crate::record_at;
 use crate::words_of;
 use rules::RECORD_BYTES;
 use rules::Record;
@@ -19,7 +19,7 @@ pub fn words_from(s: &[u8], i: usize) -> Words
 {
     let n = s.len() / RECORD_BYTES;
     if i < n {
-        return words_at(s, i);
+        return words_of(record_at(s, i));
     }
     words_of(Record::Outside)
 }

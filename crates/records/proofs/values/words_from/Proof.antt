@@ -6,18 +6,21 @@ use borrow.Author.Needs.{needs}
 use Rattle.records.proofs.values.words_from.Statement.{statement}
 use Rattle.records.proofs.values.words_from.Tie as tie
 
-words-at-requires : tie.Need-words-at-requires
-words-at-requires c κs = search needs
-
-returns : tie.Need-returns
-returns c = let start = c .before .before .before in c .words-at .ensures ∙ ap encode (sym (record-there (start .args .s .now) (start .args .i) (search needs)))
+record-at-requires : tie.Need-record-at-requires
+record-at-requires c κs = search needs
 
 words-of-requires : tie.Need-words-of-requires
 words-of-requires c κs = search needs
 
+returns : tie.Need-returns
+returns c = let s = c .before .before .before .before .args .s .now in c .words-of .ensures ∙ ap encode (c .before .record-at .ensures ∙ sym (record-there s (c .before .before .before .before .args .i) (search needs)))
+
+words-of-requires-2 : tie.Need-words-of-requires-2
+words-of-requires-2 c κs = search needs
+
 returns-2 : tie.Need-returns-2
-returns-2 c = let s = c .before .before .before .args .s .now in c .words-of .ensures ∙ ap encode (sym (record-beyond s (c .before .before .before .args .i) (search needs)))
+returns-2 c = let s = c .before .before .before .args .s .now in c .words-of2 .ensures ∙ ap encode (sym (record-beyond s (c .before .before .before .args .i) (search needs)))
 
 pub words-from-spec : {M : Type 1} → statement M
 words-from-spec =
-    tie.close (tie.spec words-at-requires returns words-of-requires returns-2)
+    tie.close (tie.spec record-at-requires words-of-requires returns words-of-requires-2 returns-2)
