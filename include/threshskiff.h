@@ -61,7 +61,8 @@ enum {
     THRESHSKIFF_NOT_IN_FILE = 5,
     /* a value is not defined exactly once, by parameter or result */
     THRESHSKIFF_NOT_DEFINED_ONCE = 6,
-    /* terminators, edges, contexts or edge arguments are not where they belong, or edge arguments do not fit the target's parameters */
+    /* a block does not end in its one terminator; results on a terminator; edges or contexts where the flags forbid them; an edge to block 0;
+     * edge arguments 1 or 2 where the flags are not 3; edge arguments that are not as many as the target's parameters, or a value of another size */
     THRESHSKIFF_UNSOUND = 7,
     /* a marked context in a reachable block */
     THRESHSKIFF_MARKED_CONTEXT = 8,

@@ -74,7 +74,7 @@ pub fn ladder(records: usize) -> Vec<u8> {
     file(&sizes, |value| value % 3 != 0, &body)
 }
 
-/// Up to 62 blocks, each of which ends in a safepoint with two edges that pass values, a returned and an exception word.
+/// Up to 62 blocks: all but the last end in a safepoint with two edges that pass values, a returned and an exception word.
 pub fn landings(records: usize) -> Vec<u8> {
     let blocks = (records / 33).clamp(2, 62) as u32;
     let mut numbers = Numbers(5);

@@ -9,7 +9,6 @@ use oracle::services::Services;
 use oracle::source::{Module, PRESENT};
 use std::fmt::Write;
 use std::hint::black_box;
-use std::time::Duration;
 
 const TABLE: usize = 512;
 
@@ -44,7 +43,7 @@ fn rewriting(file: &[u8], lent: usize, rest: Rest, effort: Effort) -> Times {
         black_box(plain::rewrite(black_box(file), 8, &mut theirs, rest));
     };
     let (mut module, read) = (Module::default(), records(file));
-    let mut module = || module.time(black_box(&read), 8).unwrap_or(Duration::ZERO);
+    let mut module = || module.time(black_box(&read), 8).expect("the module is there");
     let mut contenders = vec![Contender::Called(&mut library), Contender::Called(&mut plain)];
     if PRESENT {
         contenders.push(Contender::Timed(&mut module));

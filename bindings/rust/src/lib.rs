@@ -29,7 +29,7 @@ pub enum Refusal {
     NotInFile = 5,
     /// A value that is not defined exactly once.
     NotDefinedOnce = 6,
-    /// Terminators, edges, contexts or edge arguments not where they belong.
+    /// Terminators, results, edges, contexts or edge arguments not where they belong, or edge arguments that do not fit the target.
     Unsound = 7,
     /// A marked context in a reachable block.
     MarkedContext = 8,

@@ -1,6 +1,6 @@
 // The final records: a part of the input or a part of the output, by the answer of a rewriting.
 ghost use mathlib.Core.Path.{_≡_};
-ghost use Rattle.rules.specs.Services.{finalRecords};
+ghost use Rattle.outcomes.specs.Outcomes.{FinalAllows};
 ghost use Rattle.finals.specs.Finals.{firstRecords};
 use acceptance::verdict::is_accepted;
 use rules::RECORD_BYTES;
@@ -20,7 +20,7 @@ fn first_records<'a>(buffer: &'a [u8], records: u32) -> &'a [u8]
 // The first records of the input where it is unchanged, else of the output, as many as an answer says. The answer may be
 // any, also one that no call gave: for a refusal, and where the chosen buffer is shorter, there are none.
 pub fn final_records<'a>(answer: RewritingAnswer, input: &'a [u8], output: &'a [u8]) -> &'a [u8]
-    ensures { λ r. ⌜ now r ≡ finalRecords answer (now (input .entry)) (now (output .entry)) ⌝ }
+    ensures { λ r. ⌜ FinalAllows answer (now (input .entry)) (now (output .entry)) (now r) ⌝ }
 {
     let verdict = answer.verdict;
     if !is_accepted(verdict) {

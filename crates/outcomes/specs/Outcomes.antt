@@ -1,4 +1,5 @@
--- Any two outcomes that a service's contract allows are equal: its answer and every lent buffer, to its end.
+-- What each service's contract allows: its answer and every lent buffer, to its end. The contracts cite these statements, and any two outcomes
+-- that one allows are equal.
 use Prim.Native.Nat.{ℕ}
 use mathlib.Core.Path.{_≡_, sym, ap, _∙_}
 use mathlib.Core.Bool.{false, not, _&&_}
@@ -22,35 +23,31 @@ pub check-outcomes-equal : (s : List ℕ) {v w : Verdict} → CheckAllows s v �
 check-outcomes-equal s a b = a ∙ sym b
 
 -- what `liveness` may leave of a file and two lent tables
-pub record LivenessAllows (s : List ℕ) (n m : ℕ) (answer : LivenessAnswer) (ins outs : List ℕ) : Type 0 where
-  pub answers : answer ≡ livenessAnswer s n m
-  pub live-in : ins ≡ livenessIns s n m
-  pub live-out : outs ≡ livenessOuts s n m
+abbrev pub LivenessAllows : List ℕ → ℕ → ℕ → LivenessAnswer → List ℕ → List ℕ → Type 0
+LivenessAllows s n m answer ins outs = (answer ≡ livenessAnswer s n m) × (ins ≡ livenessIns s n m) × (outs ≡ livenessOuts s n m)
 
 pub liveness-outcomes-equal :
-    {s : List ℕ} {n m : ℕ} {a b : LivenessAnswer} {ins outs ins′ outs′ : List ℕ}
+    (s : List ℕ) (n m : ℕ) (a b : LivenessAnswer) (ins outs ins′ outs′ : List ℕ)
     → LivenessAllows s n m a ins outs → LivenessAllows s n m b ins′ outs′ → (a ≡ b) × (ins ≡ ins′) × (outs ≡ outs′)
-liveness-outcomes-equal x y = (x .answers ∙ sym (y .answers), x .live-in ∙ sym (y .live-in), x .live-out ∙ sym (y .live-out))
+liveness-outcomes-equal s n m a b ins outs ins′ outs′ x y = (x .0 ∙ sym (y .0), x .1 ∙ sym (y .1), x .2 ∙ sym (y .2))
 
 -- what `list` may leave of a file, an instruction and a lent list
-pub record ListAllows (s : List ℕ) (i n : ℕ) (answer : ListAnswer) (numbers : List ℕ) : Type 0 where
-  pub answers : answer ≡ listAnswer s i n
-  pub words : numbers ≡ listWords s i n
+abbrev pub ListAllows : List ℕ → ℕ → ℕ → ListAnswer → List ℕ → Type 0
+ListAllows s i n answer numbers = (answer ≡ listAnswer s i n) × (numbers ≡ listWords s i n)
 
 pub list-outcomes-equal :
-    {s : List ℕ} {i n : ℕ} {a b : ListAnswer} {numbers numbers′ : List ℕ}
+    (s : List ℕ) (i n : ℕ) (a b : ListAnswer) (numbers numbers′ : List ℕ)
     → ListAllows s i n a numbers → ListAllows s i n b numbers′ → (a ≡ b) × (numbers ≡ numbers′)
-list-outcomes-equal x y = (x .answers ∙ sym (y .answers), x .words ∙ sym (y .words))
+list-outcomes-equal s i n a b numbers numbers′ x y = (x .0 ∙ sym (y .0), x .1 ∙ sym (y .1))
 
 -- what `rewrite` may leave of a file, a pointer size and a lent output
-pub record RewritingAllows (s : List ℕ) (pointer n : ℕ) (answer : RewritingAnswer) (out : List ℕ) : Type 0 where
-  pub answers : answer ≡ rewritingAnswer s pointer n
-  pub output : out ≡ rewritingOutput s pointer n
+abbrev pub RewritingAllows : List ℕ → ℕ → ℕ → RewritingAnswer → List ℕ → Type 0
+RewritingAllows s pointer n answer out = (answer ≡ rewritingAnswer s pointer n) × (out ≡ rewritingOutput s pointer n)
 
 pub rewriting-outcomes-equal :
-    {s : List ℕ} {pointer n : ℕ} {a b : RewritingAnswer} {out out′ : List ℕ}
+    (s : List ℕ) (pointer n : ℕ) (a b : RewritingAnswer) (out out′ : List ℕ)
     → RewritingAllows s pointer n a out → RewritingAllows s pointer n b out′ → (a ≡ b) × (out ≡ out′)
-rewriting-outcomes-equal x y = (x .answers ∙ sym (y .answers), x .output ∙ sym (y .output))
+rewriting-outcomes-equal s pointer n a b out out′ x y = (x .0 ∙ sym (y .0), x .1 ∙ sym (y .1))
 
 -- what `final_records` may hand back of an answer and two buffers
 abbrev pub FinalAllows : RewritingAnswer → List ℕ → List ℕ → List ℕ → Type 0

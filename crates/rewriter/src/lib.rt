@@ -4,7 +4,7 @@ ghost use mathlib.Core.Path.{_≡_};
 ghost use mathlib.Core.Bool.{_||_};
 ghost use lib.Dec.{eqb};
 ghost use lib.ListN.{length, replicate};
-ghost use Rattle.rules.specs.Services.{rewritingAnswer, rewritingOutput};
+ghost use Rattle.outcomes.specs.Outcomes.{RewritingAllows};
 ghost use Rattle.acceptance.specs.Survey.{Indexed};
 ghost use Rattle.rewriting.specs.Answers.{refusedBy, Outcome};
 ghost use Rattle.rewriting.specs.Rows.{LiveRows, PointerFine};
@@ -141,8 +141,7 @@ fn rewrite_accepted(
 // no value is spilled, for then the file is unchanged, and where the call is refused: by 1, by 2 to 8, by 9, and by 11, with
 // the count of records that is needed, where the output is too short.
 pub fn rewrite(s: &[u8], pointer: u32, out: &mut [u8]) -> RewritingAnswer
-    ensures { λ r. ⌜ r ≡ rewritingAnswer (now (s .entry)) pointer (length (now (out .entry))) ⌝ }
-    ensures { λ _. ⌜ now (out .exit) ≡ rewritingOutput (now (s .entry)) pointer (length (now (out .entry))) ⌝ }
+    ensures { λ r. ⌜ RewritingAllows (now (s .entry)) pointer (length (now (out .entry))) r (now (out .exit)) ⌝ }
 {
     clear_bytes(out);
     if !is_pointer_size(pointer) {

@@ -1,6 +1,5 @@
 // Whether a file is refused by what every service refuses of a file.
-ghost use mathlib.Core.Path.{_≡_};
-ghost use Rattle.rules.specs.Refusals.{firstOf, fileRefusals};
+ghost use Rattle.outcomes.specs.Outcomes.{CheckAllows};
 use acceptance::survey::survey;
 use rules::LARGEST_BLOCKS;
 use rules::LARGEST_VALUES;
@@ -8,7 +7,7 @@ use rules::Verdict;
 
 // Refusals 2 to 8 of a file: the lowest that applies.
 pub fn check_file(s: &[u8]) -> Verdict
-    ensures { λ r. ⌜ r ≡ firstOf (fileRefusals (now (s .entry))) ⌝ }
+    ensures { λ r. ⌜ CheckAllows (now (s .entry)) r ⌝ }
 {
     let mut counts: [u32; LARGEST_VALUES] = [0; LARGEST_VALUES];
     let mut places: [usize; LARGEST_BLOCKS + 1] = [0; LARGEST_BLOCKS + 1];

@@ -1,7 +1,7 @@
 // The list of one safepoint: the values that are live across it, ascending.
 ghost use mathlib.Core.Path.{_≡_};
 ghost use lib.ListN.{length, replicate};
-ghost use Rattle.rules.specs.Services.{listAnswer, listWords};
+ghost use Rattle.outcomes.specs.Outcomes.{ListAllows};
 ghost use Prim.Native.Nat.{_≤_};
 ghost use Rattle.rows.specs.Rows.{rows, rowValues, HasRow};
 ghost use Rattle.acceptance.specs.Survey.{Indexed};
@@ -61,7 +61,7 @@ fn list_instruction(
     out: &mut [u32],
 ) -> ListAnswer
     requires { ⌜ Indexed (now s) (now places) (now order) (now index) blocks × (now out ≡ replicate (length (now out)) 0) ⌝ }
-    ensures { λ r. ⌜ (r ≡ listAnswer (now (s .entry)) instruction (length (now (out .entry)))) × (now (out .exit) ≡ listWords (now (s .entry)) instruction (length (now (out .entry)))) ⌝ }
+    ensures { λ r. ⌜ ListAllows (now (s .entry)) instruction (length (now (out .entry))) r (now (out .exit)) ⌝ }
 {
     let mut ins: [u64; TABLE_WORDS] = [0; TABLE_WORDS];
     let mut outs: [u64; TABLE_WORDS] = [0; TABLE_WORDS];
@@ -84,8 +84,7 @@ fn list_instruction(
 // the call is refused: by 2 to 8, by 10 where it is no reachable safepoint, and by 11, with the count that is needed, where
 // the buffer is too short.
 pub fn list(s: &[u8], instruction: u32, out: &mut [u32]) -> ListAnswer
-    ensures { λ r. ⌜ r ≡ listAnswer (now (s .entry)) instruction (length (now (out .entry))) ⌝ }
-    ensures { λ _. ⌜ now (out .exit) ≡ listWords (now (s .entry)) instruction (length (now (out .entry))) ⌝ }
+    ensures { λ r. ⌜ ListAllows (now (s .entry)) instruction (length (now (out .entry))) r (now (out .exit)) ⌝ }
 {
     clear_numbers(out);
     let mut counts: [u32; LARGEST_VALUES] = [0; LARGEST_VALUES];

@@ -4,7 +4,7 @@ ghost use mathlib.Core.Bool.{_||_};
 ghost use lib.Dec.{ltb};
 ghost use lib.ListN.{length};
 ghost use Rattle.rules.specs.Limits.{tableWords};
-ghost use Rattle.rules.specs.Services.{livenessAnswer, livenessIns, livenessOuts};
+ghost use Rattle.outcomes.specs.Outcomes.{LivenessAllows};
 use acceptance::survey::survey;
 use acceptance::verdict::is_accepted;
 use acceptance::verdict::or_refused;
@@ -29,9 +29,7 @@ fn too_short(n: usize, m: usize) -> bool
 // The two live tables, eight words a block, with zeros behind them, and the visits and pushes of the process. Zeros alone
 // and no counts where the call is refused: by 2 to 8, and by 11 where a table is too short.
 pub fn liveness(s: &[u8], ins: &mut [u64], outs: &mut [u64]) -> LivenessAnswer
-    ensures { λ r. ⌜ r ≡ livenessAnswer (now (s .entry)) (length (now (ins .entry))) (length (now (outs .entry))) ⌝ }
-    ensures { λ _. ⌜ now (ins .exit) ≡ livenessIns (now (s .entry)) (length (now (ins .entry))) (length (now (outs .entry))) ⌝ }
-    ensures { λ _. ⌜ now (outs .exit) ≡ livenessOuts (now (s .entry)) (length (now (ins .entry))) (length (now (outs .entry))) ⌝ }
+    ensures { λ r. ⌜ LivenessAllows (now (s .entry)) (length (now (ins .entry))) (length (now (outs .entry))) r (now (ins .exit)) (now (outs .exit)) ⌝ }
 {
     let short = too_short(ins.len(), outs.len());
     clear_words(ins);
