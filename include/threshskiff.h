@@ -25,7 +25,8 @@
  * THE FUNCTION FILE
  *
  * Records of 16 bytes, no header: four unsigned 32-bit little-endian words, the first a kind. Largest counts: 2,048 records, 512 values,
- * 64 blocks, 1,024 instructions, 256 edges. README.md has an example; a file is any bytes, and a call says no to what is none.
+ * 64 blocks, 1,024 instructions, 256 edges. README.md has the table of kinds, the order and an example; a file is any bytes, and a call says no to
+ * what is none.
  */
 #ifndef THRESHSKIFF_H
 #define THRESHSKIFF_H

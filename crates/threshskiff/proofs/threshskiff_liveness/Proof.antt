@@ -27,8 +27,8 @@ returns c =
     let refusing : ℕ → ThreshskiffLiveness = λ n. record { refusal = n; visits = a .visits; pushes = a .pushes } in
     record {
       answers = ap refusing (c .refusal-number .ensures) ∙ ap livenessNumbers (said .0);
-      live-in = said .1 .0;
-      live-out = said .1 .1;
+      live-in = said .1;
+      live-out = said .2;
     }
 
 pub threshskiff-liveness-spec : {M : Type 1} → statement M

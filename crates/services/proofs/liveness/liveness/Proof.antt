@@ -57,7 +57,7 @@ returns c =
     let m = length (c .before .before .before .before .before .before .before .before .before .before .before .before .before .before .before .before .before .before .before .before .before .before .before .before .before .before .before .before .before .args .outs .now) in
     let found = verdict-found s n m (c .before .before .before .before .before .before .before .before .before .before .survey .ensures .says) (c .before .before .before .before .before .before .before .before .before .before .before .before .before .before .before .before .before .before .before .before .before .before .before .before .before .too-short .ensures) (c .before .before .or-refused .ensures) in
     let no = said-no (c .before .is-accepted .ensures) found (c .if1 .taken) in
-    (refused-answer s n m no _ found, (c .before .before .before .before .before .before .before .before .before .before .before .before .before .before .before .before .before .before .before .before .before .before .before .clear-words .ensures ∙ refused-ins s n m no, c .before .before .before .before .before .before .before .before .before .before .before .before .before .before .before .before .before .before .before .clear-words2 .ensures ∙ refused-outs s n m no))
+    (refused-answer s n m no _ found, c .before .before .before .before .before .before .before .before .before .before .before .before .before .before .before .before .before .before .before .before .before .before .before .clear-words .ensures ∙ refused-ins s n m no, c .before .before .before .before .before .before .before .before .before .before .before .before .before .before .before .before .before .before .before .clear-words2 .ensures ∙ refused-outs s n m no)
 
 slice-aggregate-live-tables : tie.Need-slice-aggregate-live-tables
 slice-aggregate-live-tables c = search needs
@@ -88,10 +88,8 @@ returns-2 c =
     let found = verdict-found s n m (c .before .before .before .before .before .before .before .before .before .before .before .before .before .before .before .before .before .before .before .survey .ensures .says) (c .before .before .before .before .before .before .before .before .before .before .before .before .before .before .before .before .before .before .before .before .before .before .before .before .before .before .before .before .before .before .before .before .before .before .too-short .ensures) (c .before .before .before .before .before .before .before .before .before .before .before .or-refused .ensures) in
     let yes = said-yes (c .before .before .before .before .before .before .before .before .before .before .is-accepted .ensures) found (c .before .before .before .before .before .before .before .before .before .if1 .left) in (
       accepted-answer s n m yes _ _ _ found (c .before .before .before .before .live-tables .ensures .2) (c .before .before .before .before .live-tables .ensures .3),
-      (
-        accepted-ins s n m yes _ (c .before .before .before .before .live-tables .kept .1 .1 .1 .1 .0 ∙ c .before .before .before .before .before .before .before .before .before .before .before .before .before .before .before .before .before .before .before .before .before .before .before .before .before .before .before .before .before .before .before .before .clear-words .kept .0) (λ i. c .before .before .slice-known5 .given i .fits) (c .before .before .before .before .live-tables .ensures .0),
-        accepted-outs s n m yes _ (c .before .before .before .before .live-tables .kept .1 .1 .1 .1 .1 .0 ∙ c .before .before .before .before .before .before .before .before .before .before .before .before .before .before .before .before .before .before .before .before .before .before .before .before .before .before .before .before .clear-words2 .kept .0) (λ i. c .slice-known6 .given i .fits) (c .before .before .before .before .live-tables .ensures .1),
-      ),
+      accepted-ins s n m yes _ (c .before .before .before .before .live-tables .kept .1 .1 .1 .1 .0 ∙ c .before .before .before .before .before .before .before .before .before .before .before .before .before .before .before .before .before .before .before .before .before .before .before .before .before .before .before .before .before .before .before .before .clear-words .kept .0) (λ i. c .before .before .slice-known5 .given i .fits) (c .before .before .before .before .live-tables .ensures .0),
+      accepted-outs s n m yes _ (c .before .before .before .before .live-tables .kept .1 .1 .1 .1 .1 .0 ∙ c .before .before .before .before .before .before .before .before .before .before .before .before .before .before .before .before .before .before .before .before .before .before .before .before .before .before .before .before .clear-words2 .kept .0) (λ i. c .slice-known6 .given i .fits) (c .before .before .before .before .live-tables .ensures .1),
     )
 
 pub liveness-spec : {M : Type 1} → statement M
