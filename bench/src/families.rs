@@ -28,7 +28,7 @@ fn file(sizes: &[u32], marked: impl Fn(u32) -> bool, body: &[Record]) -> Vec<u8>
 
 /// One block. Every other instruction defines a value; of those between, every other one is a safepoint.
 pub fn straight(records: usize) -> Vec<u8> {
-    let values = (records.saturating_sub(4) / 7).max(1) as u32;
+    let values = (records.saturating_sub(2) / 7).max(1) as u32;
     let mut numbers = Numbers(77);
     let mut body = vec![[kind::BLOCK, 0, 0, 0]];
     for value in 0..values {
@@ -50,7 +50,7 @@ pub fn straight(records: usize) -> Vec<u8> {
 /// Up to 60 blocks: each leads on to the next and back to itself, every fourth three blocks further back.
 pub fn ladder(records: usize) -> Vec<u8> {
     let blocks = (records / 34).clamp(1, 60) as u32;
-    let each = ((records / blocks as usize).saturating_sub(6) / 4).clamp(1, 8) as u32;
+    let each = (records / blocks as usize).saturating_sub(4).div_ceil(4).clamp(1, 7) as u32;
     let mut numbers = Numbers(99);
     let mut body = Vec::new();
     for block in 0..blocks {

@@ -3,13 +3,13 @@
 use crate::rows::{Curve, Times};
 use std::fmt::Write;
 
-const WIDTH: f64 = 300.0;
+const WIDTH: f64 = 310.0;
 const HEIGHT: f64 = 210.0;
-const MARGIN: (f64, f64, f64, f64) = (46.0, 26.0, 12.0, 34.0); // left, top, right, bottom
+const MARGIN: (f64, f64, f64, f64) = (58.0, 26.0, 16.0, 34.0); // left, top, right, bottom
 
-/// Records from 16 to 2,048, microseconds from 1 to 10,000.
-const X: (f64, f64) = (16.0, 2048.0);
-const Y: (f64, f64) = (1.0, 10_000.0);
+/// What the axes show: records, a little less than 16 to 2,048, and microseconds.
+const X: (f64, f64) = (12.0, 2048.0);
+const Y: (f64, f64) = (0.3, 10_000.0);
 
 const LINES: [(&str, &str, fn(&Times) -> Option<f64>); 3] = [
     ("library", "#0b6e4f", |times| Some(times.library)),
@@ -67,7 +67,7 @@ fn chart(text: &mut String, curve: &Curve, left: f64, top: f64) {
             format!("<text x=\"{}\" y=\"{:.1}\" text-anchor=\"end\">{micros} µs</text>", across(X.0) - 4.0, y + 4.0),
         );
     }
-    for records in [16.0, 64.0, 256.0, 1024.0, 2048.0] {
+    for records in [16.0, 64.0, 256.0, 1024.0] {
         add(
             text,
             format!(
