@@ -23,7 +23,8 @@ use Rattle.lists.specs.Tests.{or-left}
 use Rattle.lists.specs.Members.{_∈_, here, there, not-∈-nil, ∈-elim}
 use Rattle.lists.specs.Maps.{concatMap-concatMap}
 use Rattle.walks.specs.InFile.{reachable-in-file, length-reachable-le}
-use Rattle.records.specs.Values.{valueOf, each-length}
+use Rattle.records.specs.Places.{each-length}
+use Rattle.records.specs.Values.{valueOf}
 use Rattle.records.specs.Parts.{argument, second, cut-heads, parameters-in-order, results-in-order, arguments-in-order, targets-in-order, edgeArguments-in-order}
 use Rattle.fixpoint.specs.Sums.{sum}
 use Rattle.agreement.specs.Growing.{one, two, edgeCost, instructionCost, blockCost}

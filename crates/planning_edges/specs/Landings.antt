@@ -20,7 +20,7 @@ use Rattle.rules.specs.declared.Record.the-variants as record′
 use Rattle.rules.specs.declared.Words.{Words}
 use Rattle.records.specs.Leading.{leading, parameters-lead}
 use Rattle.records.specs.Parts.{second, argument}
-use Rattle.records.specs.Values.{record-there}
+use Rattle.records.specs.Places.{record-there}
 use Rattle.graph.specs.Between.{between, between-none, between-more}
 use Rattle.graph.specs.Blocks.{placeOf, bodyAt, place-le, place-less, blockAt-parameters, block-body}
 use Rattle.graph.specs.ByTable.{places-long, place-at, end-le, start-less}

@@ -2,6 +2,7 @@ pub mod Kinds
 pub mod Places
 pub mod Reading
 pub mod InOrder
+pub mod InTable
 pub mod Parts
 pub mod Leading
 pub mod Values

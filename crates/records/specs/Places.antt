@@ -1,14 +1,15 @@
 -- Records by place: what a loop over a file sees in front of it.
-use Prim.Native.Nat.{ℕ, suc, _+_, _-_, _*_, _<_}
-use mathlib.Core.Path.{_≡_, ap, _∙_}
+use Prim.Native.Nat.{ℕ, zero, suc, _+_, _-_, _*_, _<_, _≤_}
+use mathlib.Core.Path.{_≡_, refl, sym, ap, _∙_}
 use mathlib.Core.List.{List, [], _∷_}
 use native.Mathlib.Omega.{arith}
 use native.Mathlib.Numerals.{add-one}
-use lib.ListN.{drop}
+use lib.ListN.{length, getD, drop, List·getD-eq-default}
 use lib.Seq.{getD-drop, drop-drop}
 use Rattle.rules.specs.Limits.{recordBytes}
 use Rattle.rules.specs.Records.{wordAt, recordAt, recordCount, eachFrom, records, firstWords}
 use Rattle.rules.specs.declared.Record.{Record}
+use Rattle.rules.specs.declared.Record.the-variants as record′
 
 -- what is read at the front of each record from place i on
 unfoldable pub restBy : {A : Type 0} → (List ℕ → A) → List ℕ → ℕ → List A
@@ -80,3 +81,32 @@ module _ (s : List ℕ) where
   pub firstWords-all : firstWordsRest s 0 ≡ firstWords s
   unfolding firstWords
   firstWords-all = restBy-all (λ t. wordAt t 0) s
+
+-- the record at a place, from the list
+getD-rest : (s : List ℕ) (i k : ℕ) → i + k < recordCount s → getD (rest s i) k record′.Outside ≡ recordAt s (i + k)
+getD-rest s i zero l =
+    let e : i ≡ i + 0 = omega arith in
+    ap (λ rs. getD rs 0 record′.Outside) (rest-more s i (omega arith)) ∙ ap (recordAt s) e
+getD-rest s i (suc k) l =
+    let e : suc i + k ≡ i + suc k = omega arith in
+    ap (λ rs. getD rs (suc k) record′.Outside) (rest-more s i (omega arith)) ∙ getD-rest s (suc i) k (omega arith) ∙ ap (recordAt s) e
+
+-- what is read at each of n records is n long
+pub each-length : {A : Type 0} (front : List ℕ → A) (n : ℕ) (s : List ℕ) → length (eachFrom front n s) ≡ n
+each-length front zero s = refl
+each-length front (suc n) s = ap suc (each-length front n (drop recordBytes s))
+
+module _ (s : List ℕ) where
+  pub record-there : (k : ℕ) → k < recordCount s → getD (records s) k record′.Outside ≡ recordAt s k
+  record-there k l =
+      let e : 0 + k ≡ k = omega arith in
+      ap (λ rs. getD rs k record′.Outside) (sym (rest-all s)) ∙ getD-rest s 0 k (omega arith) ∙ ap (recordAt s) e
+
+  pub records-length : length (records s) ≡ recordCount s
+  unfolding records
+  records-length = each-length (λ t. recordAt t 0) (recordCount s) s
+
+  pub record-beyond : (k : ℕ) → recordCount s ≤ k → getD (records s) k record′.Outside ≡ record′.Outside
+  record-beyond k l =
+      let e = records-length in
+      List·getD-eq-default (records s) record′.Outside {n = k} (omega arith)

@@ -17,7 +17,8 @@ use Rattle.rules.specs.declared.Record.{Record}
 use Rattle.rules.specs.declared.Record.the-variants as record′
 use Rattle.lists.specs.Tests.{test-elim, and-left, and-right, and-intro, or-elim, or-left, passes-at, chosen, left-out}
 use Rattle.records.specs.Kinds.{Kinds, kind-edgeArgument, ofKind-none}
-use Rattle.records.specs.Places.{rest, rest-more, rest-all}
+use Rattle.records.specs.Places.{record-there, record-beyond}
+use Rattle.records.specs.InTable.{words-at}
 use Rattle.records.specs.InOrder.{chain, ordered-chain, keptBy, chain-good}
 
 -- the value that four words of a value's record are
@@ -118,75 +119,6 @@ value-there p (r ∷ rs) m c v l =
     more y later zero q = y
     more y later (suc u) q = later u (omega arith)
 
--- RECORDS BY PLACE.
-getD-rest : (s : List ℕ) (i k : ℕ) → i + k < recordCount s → getD (rest s i) k record′.Outside ≡ recordAt s (i + k)
-getD-rest s i zero l =
-    let e : i ≡ i + 0 = omega arith in
-    ap (λ rs. getD rs 0 record′.Outside) (rest-more s i (omega arith)) ∙ ap (recordAt s) e
-getD-rest s i (suc k) l =
-    let e : suc i + k ≡ i + suc k = omega arith in
-    ap (λ rs. getD rs (suc k) record′.Outside) (rest-more s i (omega arith)) ∙ getD-rest s (suc i) k (omega arith) ∙ ap (recordAt s) e
-
--- what is read at each of n records is n long
-pub each-length : {A : Type 0} (front : List ℕ → A) (n : ℕ) (s : List ℕ) → length (eachFrom front n s) ≡ n
-each-length front zero s = refl
-each-length front (suc n) s = ap suc (each-length front n (drop recordBytes s))
-
-module _ (s : List ℕ) where
-  pub record-there : (k : ℕ) → k < recordCount s → getD (records s) k record′.Outside ≡ recordAt s k
-  record-there k l =
-      let e : 0 + k ≡ k = omega arith in
-      ap (λ rs. getD rs k record′.Outside) (sym (rest-all s)) ∙ getD-rest s 0 k (omega arith) ∙ ap (recordAt s) e
-
-  pub record-beyond : (k : ℕ) → recordCount s ≤ k → getD (records s) k record′.Outside ≡ record′.Outside
-  unfolding records
-  record-beyond k l =
-      let e = each-length (λ t. recordAt t 0) (recordCount s) s in
-      List·getD-eq-default (records s) record′.Outside {n = k} (omega arith)
-
--- A VALUE'S RECORD, BY ITS WORDS. Of what the table reads only kind 1 is a value, and its words 2 and 3 are kept.
-module _ (k a b c : ℕ) where
-  abbrev isValueOf : Record → Type 0
-  isValueOf r = T (eqb (kind r) 1) → valueIn r ≡ record { size = a; marked = eqb b 1 }
-
-  other : (t : Bool) (r : Record) → T (not (eqb (kind r) 1)) → isValueOf (cond t r record′.Outside)
-  other true r n h = absurd (T-not (eqb (kind r) 1) n h)
-  other false r n h = absurd h
-
-  value : (t : Bool) → isValueOf (cond t (record′.Value a (eqb b 1)) record′.Outside)
-  value true h = go (eqb b 1)
-    where
-      go : (m : Bool) → valueOf (encode (record′.Value a m)) ≡ record { size = a; marked = m }
-      go true = refl
-      go false = refl
-  value false h = absurd h
-
-  choose : (t : Bool) (x y : Record) → isValueOf x → isValueOf y → isValueOf (cond t x y)
-  choose true x y f g = f
-  choose false x y f g = g
-
-  pub value-words : isValueOf (decode k a b c)
-  unfolding decode
-  value-words =
-      let z₃ : (r : Record) → T (not (eqb (kind r) 1)) → isValueOf (cond (eqb b 0 && eqb c 0) r record′.Outside) = other (eqb b 0 && eqb c 0) in
-      let z₄ : (t : Bool) (r : Record) → T (not (eqb (kind r) 1)) → isValueOf (cond (eqb c 0 && t) r record′.Outside) = λ t. other (eqb c 0 && t) in
-      choose (eqb k 1) _ _ (value (eqb c 0 && (leb 1 a && leb a 64 && leb b 1)))
-      (choose (eqb k 2) _ _ (z₄ (leb a 1) (record′.Block (eqb a 1) b) tt)
-      (choose (eqb k 3) _ _ (z₃ (record′.Parameter a) tt)
-      (choose (eqb k 4) _ _ (z₄ (leb a 3) (record′.Instruction (isSafepoint a) (isTerminator a) b) tt)
-      (choose (eqb k 5) _ _ (z₃ (record′.Result a) tt)
-      (choose (eqb k 6) _ _ (z₃ (record′.Argument a) tt)
-      (choose (eqb k 7) _ _ (z₃ (record′.Edge a) tt)
-      (choose (eqb k 8) _ _ (z₄ (leb a 2) (record′.EdgeArgument (edgeArgument a b)) (kind-edgeArgument (λ j. not (eqb j 1)) (edgeArgument a b) tt))
-      (choose (eqb k 9) _ _ (z₃ (record′.Context a) tt)
-      (choose (eqb k 10) _ _ (z₄ (has a slotSizes && eqb b (log2 a)) (record′.Slot a) tt)
-      (choose (eqb k 11) _ _ (z₄ true (record′.MapEntry a b) tt)
-      (choose (eqb k 12) _ _ (z₄ true (record′.SlotAddress a b) tt)
-      (choose (eqb k 13) _ _ (z₄ true (record′.Store a b) tt)
-      (choose (eqb k 14) _ _ (other true (record′.Load a b c) tt)
-      (choose (eqb k 15) _ _ (choose (eqb a 0) _ _ (z₃ record′.Jump tt) (λ h. absurd h))
-      (λ h. absurd h)))))))))))))))
-
 -- THE LAWS, of a file in order.
 module _ (s : List ℕ) (h : T (ordered 0 (records s))) where
   -- the size of value v is read off the record at place v, and is 0 where that is no value
@@ -216,10 +148,9 @@ module _ (s : List ℕ) (h : T (ordered 0 (records s))) where
         (λ n. absurd (subst (λ r. T (eqb (kind r) 1)) (record-beyond s v (nltb→le v (recordCount s) n)) there))
 
     valueAt-words : valueAt (functionIn s) v ≡ record { size = wordAt s (recordBytes * v + 4); marked = eqb (wordAt s (recordBytes * v + 8)) 1 }
-    unfolding recordAt
     valueAt-words =
-        let i = recordBytes * v in
-        value-in-place v (value-record .0) ∙ value-words (wordAt s i) (wordAt s (i + 4)) (wordAt s (i + 8)) (wordAt s (i + 12)) (value-record .1)
+        let r = recordAt s v in
+        value-in-place v (value-record .0) ∙ chosen (eqb (kind r) 1) (valueOf (encode r)) noValue (value-record .1) ∙ ap valueOf (words-at s h v (value-record .0))
 
     pub sizeOf-word : sizeOf (functionIn s) v ≡ wordAt s (recordBytes * v + 4)
     sizeOf-word = ap (λ x. x .size) valueAt-words

@@ -15,6 +15,7 @@ use rules::RECORD_BYTES;
 use rules::Record;
 use rules::Words;
 
+pub mod in_order;
 pub mod values;
 
 fn wide(x: u8) -> u32
@@ -204,7 +205,7 @@ fn words_of_argument(x: EdgeArgument) -> Words
     }
 }
 
-fn words(kind: u32, second: u32, third: u32, fourth: u32) -> Words
+pub fn words(kind: u32, second: u32, third: u32, fourth: u32) -> Words
     ensures { λ w. ⌜ w ≡ wordsAre kind second third fourth ⌝ }
 {
     Words {

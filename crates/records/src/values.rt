@@ -1,28 +1,12 @@
 // A value's size and mark: values stand first in a file in order, so both are words of the record at the value's place.
 ghost use mathlib.Core.Path.{_≡_};
 ghost use mathlib.Core.Bool.{true};
-ghost use lib.ListN.{getD};
-ghost use Rattle.rules.specs.Records.{encode, records};
+ghost use Rattle.rules.specs.Records.{records};
 ghost use Rattle.rules.specs.File.{ordered, functionIn};
 ghost use Rattle.rules.specs.Graph.{sizeOf, isMarked};
-ghost use Rattle.rules.specs.declared.Record.the-variants.{Outside};
 ghost use Rattle.records.specs.Values.{sizeIn, markIn};
-use crate::record_at;
-use crate::words_of;
-use rules::RECORD_BYTES;
-use rules::Record;
+use crate::in_order::words_from;
 use rules::Words;
-
-// The words of the record at place i, those of a record outside the table beyond the end.
-pub fn words_from(s: &[u8], i: usize) -> Words
-    ensures { λ w. ⌜ w ≡ encode (getD (records (now (s .entry))) i Outside) ⌝ }
-{
-    let n = s.len() / RECORD_BYTES;
-    if i < n {
-        return words_of(record_at(s, i));
-    }
-    words_of(Record::Outside)
-}
 
 // The size that a value's words give, 0 for those of another record.
 fn size_in(w: Words) -> u32

@@ -20,10 +20,9 @@ use Rattle.rules.specs.declared.Record.{Record}
 use Rattle.rules.specs.declared.Record.the-variants as record′
 use Rattle.lists.specs.Tests.{test-elim, neqb→ne}
 use Rattle.lists.specs.Members.{all→∈, getD-∈}
-use Rattle.records.specs.Places.{rest, rest-more, rest-next, rest-all, restBy-done}
+use Rattle.records.specs.Places.{rest, rest-more, rest-next, rest-all, restBy-done, each-length, record-there, record-beyond}
 use Rattle.records.specs.Parts.{argument, second, blocks-more}
 use Rattle.records.specs.Leading.{leading, chain-behind}
-use Rattle.records.specs.Values.{each-length, record-there, record-beyond}
 use Rattle.checks.specs.Numbers.{numbersFit, fit as fitNumbers, fit-edge, numbersInFile-by-records}
 use Rattle.graph.specs.Sections.{placeIf, places}
 use Rattle.graph.specs.Placed.{placesOf, placeTable}

@@ -1,0 +1,115 @@
+-- A record of the table is read by its words as they stand, and in a file in order every record is of the table.
+use Prim.Native.Nat.{ℕ, zero, suc, _+_, _*_, _<_}
+use mathlib.Core.Path.{_≡_, refl, sym, ap, ap₂, subst, _∙_}
+use mathlib.Core.Bool.{Bool, true, false, _&&_, cond}
+use mathlib.Core.List.{List, [], _∷_}
+use native.Mathlib.Omega.{arith}
+use lib.ListN.{length, getD}
+use lib.Dec.{T, leb, eqb, eqb→eq, leb→le}
+use Rattle.rules.specs.Limits.{recordBytes}
+use Rattle.rules.specs.Lists.{all, has}
+use Rattle.rules.specs.Records.{wordAt, words, bit, slotSizes, log2, isSafepoint, isTerminator, edgeArgument, encode, kind, decode, recordAt, recordCount, records}
+use Rattle.rules.specs.File.{followers, ordered}
+use Rattle.rules.specs.declared.Record.{Record}
+use Rattle.rules.specs.declared.Record.the-variants as record′
+use Rattle.lists.specs.Tests.{T-and, and-left, and-right}
+use Rattle.records.specs.Kinds.{Kinds}
+use Rattle.records.specs.InOrder.{ordered-chain, keptBy, chain-good}
+use Rattle.records.specs.Places.{record-there, records-length}
+
+-- a record of the table
+abbrev pub InTable : Record → Type 0
+InTable r = T (leb 1 (kind r))
+
+-- THE TABLE. What it reads, it writes as it stood.
+bit-of-word : (b : ℕ) → T (leb b 1) → bit (eqb b 1) ≡ b
+bit-of-word zero h = refl
+bit-of-word (suc zero) h = refl
+bit-of-word (suc (suc b)) h = let l = leb→le (suc (suc b)) 1 h in absurd (omega arith)
+
+flags-of-word : (a : ℕ) → T (leb a 3) → bit (isSafepoint a) + 2 * bit (isTerminator a) ≡ a
+flags-of-word zero h = refl
+flags-of-word (suc zero) h = refl
+flags-of-word (suc (suc zero)) h = refl
+flags-of-word (suc (suc (suc zero))) h = refl
+flags-of-word (suc (suc (suc (suc a)))) h = let l = leb→le (suc (suc (suc (suc a)))) 3 h in absurd (omega arith)
+
+argument-of-words : (a b : ℕ) → T (leb a 2) → encode (record′.EdgeArgument (edgeArgument a b)) ≡ words 8 a b 0
+argument-of-words zero b h = refl
+argument-of-words (suc zero) b h = refl
+argument-of-words (suc (suc zero)) b h = refl
+argument-of-words (suc (suc (suc a))) b h = let l = leb→le (suc (suc (suc a))) 2 h in absurd (omega arith)
+
+module _ (k a b c : ℕ) where
+  -- a record that has these words, if it is of the table
+  abbrev standsAs : Record → Type 0
+  standsAs r = InTable r → encode r ≡ words k a b c
+
+  choose : (t : Bool) (x y : Record) → (T t → standsAs x) → standsAs y → standsAs (cond t x y)
+  choose true x y f g = f tt
+  choose false x y f g = g
+
+  -- of kind j, word 4 unused, the others as a test has them
+  three : (j : ℕ) (t : Bool) (r : Record) → (T t → encode r ≡ words j a b 0) → T (eqb k j) → standsAs (cond (eqb c 0 && t) r record′.Outside)
+  three j t r e kj =
+      choose (eqb c 0 && t) r record′.Outside
+      (λ h _. let both = T-and (eqb c 0) t h in e (both .1) ∙ ap₂ (λ i d. words i a b d) (sym (eqb→eq k j kj)) (sym (eqb→eq c 0 (both .0)))) (λ h. absurd h)
+
+  -- of kind j, words 3 and 4 unused
+  two : (j : ℕ) (r : Record) → encode r ≡ words j a 0 0 → T (eqb k j) → standsAs (cond (eqb b 0 && eqb c 0) r record′.Outside)
+  two j r e kj =
+      choose (eqb b 0 && eqb c 0) r record′.Outside
+      (λ h _.
+      let both = T-and (eqb b 0) (eqb c 0) h in
+      e ∙ ap (λ i. words i a 0 0) (sym (eqb→eq k j kj)) ∙ ap₂ (λ x y. words k a x y) (sym (eqb→eq b 0 (both .0))) (sym (eqb→eq c 0 (both .1)))) (λ h. absurd h)
+
+  pub decode-words : standsAs (decode k a b c)
+  unfolding decode
+  decode-words =
+      choose (eqb k 1) _ _
+      (three 1 (leb 1 a && leb a 64 && leb b 1) (record′.Value a (eqb b 1))
+      (λ h. ap (λ m. words 1 a m 0) (bit-of-word b (and-right (leb 1 a && leb a 64) (leb b 1) h))))
+      (choose (eqb k 2) _ _ (three 2 (leb a 1) (record′.Block (eqb a 1) b) (λ h. ap (λ m. words 2 m b 0) (bit-of-word a h)))
+      (choose (eqb k 3) _ _ (two 3 (record′.Parameter a) refl)
+      (choose (eqb k 4) _ _ (three 4 (leb a 3) (record′.Instruction (isSafepoint a) (isTerminator a) b) (λ h. ap (λ m. words 4 m b 0) (flags-of-word a h)))
+      (choose (eqb k 5) _ _ (two 5 (record′.Result a) refl)
+      (choose (eqb k 6) _ _ (two 6 (record′.Argument a) refl)
+      (choose (eqb k 7) _ _ (two 7 (record′.Edge a) refl)
+      (choose (eqb k 8) _ _ (three 8 (leb a 2) (record′.EdgeArgument (edgeArgument a b)) (argument-of-words a b))
+      (choose (eqb k 9) _ _ (two 9 (record′.Context a) refl)
+      (choose (eqb k 10) _ _
+      (three 10 (has a slotSizes && eqb b (log2 a)) (record′.Slot a)
+      (λ h. ap (λ m. words 10 a m 0) (sym (eqb→eq b (log2 a) (and-right (has a slotSizes) (eqb b (log2 a)) h)))))
+      (choose (eqb k 11) _ _ (three 11 true (record′.MapEntry a b) (λ _. refl))
+      (choose (eqb k 12) _ _ (three 12 true (record′.SlotAddress a b) (λ _. refl))
+      (choose (eqb k 13) _ _ (three 13 true (record′.Store a b) (λ _. refl))
+      (choose (eqb k 14) _ _ (λ h _. ap (λ i. words i a b c) (sym (eqb→eq k 14 h)))
+      (choose (eqb k 15) _ _
+      (λ h.
+      choose (eqb a 0) _ _ (λ z. two 15 record′.Jump (ap (λ x. words 15 x 0 0) (sym (eqb→eq a 0 z))) h) (λ o. absurd o))
+      (λ h. absurd h)))))))))))))))
+
+-- THE FILE.
+every : (rs : List Record) → Kinds (λ _. true) rs
+every [] = tt
+every (r ∷ rs) = every rs
+
+at : (rs : List Record) → Kinds (leb 1) rs → (i : ℕ) → i < length rs → InTable (getD rs i record′.Outside)
+at [] h i l = absurd (omega arith)
+at (r ∷ rs) h zero l = and-left (leb 1 (kind r)) (all (λ x. leb 1 (kind x)) rs) h
+at (r ∷ rs) h (suc i) l = at rs (and-right (leb 1 (kind r)) (all (λ x. leb 1 (kind x)) rs) h) i (omega arith)
+
+module _ (s : List ℕ) (h : T (ordered 0 (records s))) (i : ℕ) (l : i < recordCount s) where
+  pub in-table-at : InTable (recordAt s i)
+  unfolding keptBy followers
+  in-table-at =
+      let good = chain-good (0 ∷ 1 ∷ 2 ∷ 3 ∷ 4 ∷ 5 ∷ 6 ∷ 7 ∷ 8 ∷ 9 ∷ []) (λ _. true) (leb 1) tt 0 (records s) tt (ordered-chain 0 (records s) h) (every (records s)) in
+      let n = records-length s in
+      subst InTable (record-there s i l) (at (records s) good i (omega arith))
+
+  -- the four words of record i stand in the file
+  pub words-at : encode (recordAt s i) ≡ words (wordAt s (recordBytes * i)) (wordAt s (recordBytes * i + 4)) (wordAt s (recordBytes * i + 8)) (wordAt s (recordBytes * i + 12))
+  unfolding recordAt
+  words-at =
+      let b = recordBytes * i in
+      decode-words (wordAt s b) (wordAt s (b + 4)) (wordAt s (b + 8)) (wordAt s (b + 12)) in-table-at
