@@ -89,6 +89,60 @@ module _ (k a b c : ℕ) where
       choose (eqb a 0) _ _ (λ z. two 15 record′.Jump (ap (λ x. words 15 x 0 0) (sym (eqb→eq a 0 z))) h) (λ o. absurd o))
       (λ h. absurd h)))))))))))))))
 
+-- The record that four words of the table are: the table's rows, without its tests.
+unfoldable pub readAs : ℕ → ℕ → ℕ → ℕ → Record
+readAs k a b c =
+    cond (eqb k 1) (record′.Value a (eqb b 1))
+    (cond (eqb k 2) (record′.Block (eqb a 1) b)
+    (cond (eqb k 3) (record′.Parameter a)
+    (cond (eqb k 4) (record′.Instruction (isSafepoint a) (isTerminator a) b)
+    (cond (eqb k 5) (record′.Result a)
+    (cond (eqb k 6) (record′.Argument a)
+    (cond (eqb k 7) (record′.Edge a)
+    (cond (eqb k 8) (record′.EdgeArgument (edgeArgument a b))
+    (cond (eqb k 9) (record′.Context a)
+    (cond (eqb k 10) (record′.Slot a)
+    (cond (eqb k 11) (record′.MapEntry a b)
+    (cond (eqb k 12) (record′.SlotAddress a b)
+    (cond (eqb k 13) (record′.Store a b)
+    (cond (eqb k 14) (record′.Load a b c)
+    (cond (eqb k 15) record′.Jump record′.Outside))))))))))))))
+
+-- a record of the table passed its test
+passed : (t : Bool) (r : Record) → InTable (cond t r record′.Outside) → cond t r record′.Outside ≡ r
+passed true r h = refl
+passed false r h = absurd h
+
+either : (t : Bool) (x x′ y y′ : Record) → (InTable x → x ≡ x′) → (InTable y → y ≡ y′) → InTable (cond t x y) → cond t x y ≡ cond t x′ y′
+either true x x′ y y′ f g h = f h
+either false x x′ y y′ f g h = g h
+
+pub decode-readAs : (k a b c : ℕ) → InTable (decode k a b c) → decode k a b c ≡ readAs k a b c
+unfolding decode readAs
+decode-readAs k a b c =
+    let two : (r : Record) → InTable (cond (eqb b 0 && eqb c 0) r record′.Outside) → cond (eqb b 0 && eqb c 0) r record′.Outside ≡ r = passed (eqb b 0 && eqb c 0) in
+    let three : (t : Bool) (r : Record) → InTable (cond (eqb c 0 && t) r record′.Outside) → cond (eqb c 0 && t) r record′.Outside ≡ r = λ t. passed (eqb c 0 && t) in
+    either (eqb k 1) _ _ _ _ (three (leb 1 a && leb a 64 && leb b 1) _)
+    (either (eqb k 2) _ _ _ _ (three (leb a 1) _)
+    (either (eqb k 3) _ _ _ _ (two _)
+    (either (eqb k 4) _ _ _ _ (three (leb a 3) _)
+    (either (eqb k 5) _ _ _ _ (two _)
+    (either (eqb k 6) _ _ _ _ (two _)
+    (either (eqb k 7) _ _ _ _ (two _)
+    (either (eqb k 8) _ _ _ _ (three (leb a 2) _)
+    (either (eqb k 9) _ _ _ _ (two _)
+    (either (eqb k 10) _ _ _ _ (three (has a slotSizes && eqb b (log2 a)) _)
+    (either (eqb k 11) _ _ _ _ (three true _)
+    (either (eqb k 12) _ _ _ _ (three true _)
+    (either (eqb k 13) _ _ _ _ (three true _)
+    (either (eqb k 14) _ _ _ _ (λ _. refl)
+    (either (eqb k 15) _ _ _ _ (jump (eqb a 0)) (λ _. refl)))))))))))))))
+  where
+    jump : (t : Bool) → InTable (cond t (cond (eqb b 0 && eqb c 0) record′.Jump record′.Outside) record′.Outside)
+        → cond t (cond (eqb b 0 && eqb c 0) record′.Jump record′.Outside) record′.Outside ≡ record′.Jump
+    jump true h = passed (eqb b 0 && eqb c 0) record′.Jump h
+    jump false h = absurd h
+
 -- THE FILE.
 every : (rs : List Record) → Kinds (λ _. true) rs
 every [] = tt
@@ -113,3 +167,10 @@ module _ (s : List ℕ) (h : T (ordered 0 (records s))) (i : ℕ) (l : i < recor
   words-at =
       let b = recordBytes * i in
       decode-words (wordAt s b) (wordAt s (b + 4)) (wordAt s (b + 8)) (wordAt s (b + 12)) in-table-at
+
+  -- and the record is read off them without a test
+  pub record-at : recordAt s i ≡ readAs (wordAt s (recordBytes * i)) (wordAt s (recordBytes * i + 4)) (wordAt s (recordBytes * i + 8)) (wordAt s (recordBytes * i + 12))
+  unfolding recordAt
+  record-at =
+      let b = recordBytes * i in
+      decode-readAs (wordAt s b) (wordAt s (b + 4)) (wordAt s (b + 8)) (wordAt s (b + 12)) in-table-at
