@@ -7,9 +7,10 @@ use std::path::Path;
 const ARCHIVES: &str = "../../target/staticlib";
 
 fn main() {
-    let target = env::var("CARGO_CFG_TARGET_ARCH").expect("cargo sets CARGO_CFG_TARGET_ARCH");
-    assert_eq!(target, "x86_64", "the static library is for x86-64 alone");
-    let package = env::var("CARGO_MANIFEST_DIR").expect("cargo sets CARGO_MANIFEST_DIR");
+    let set = |name: &str| env::var(name).unwrap_or_else(|_| panic!("cargo sets {name}"));
+    assert_eq!(set("CARGO_CFG_TARGET_ARCH"), "x86_64", "the static library is for x86-64 alone");
+    assert_eq!(set("CARGO_CFG_TARGET_OS"), "linux", "the static library is for Linux alone");
+    let package = set("CARGO_MANIFEST_DIR");
     let folder = Path::new(&package).join(ARCHIVES);
     let archive = folder.join("libthreshskiff.a");
     println!("cargo::rerun-if-changed=build.rs");

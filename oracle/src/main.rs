@@ -22,8 +22,8 @@ oracle library [--files N] [--seed S]   the library written in Rattle: replays t
                                         what it makes of them (feature `library`)
 oracle guarded [--files N] [--seed S]   the same services between guard pages, with all lent lengths around each boundary, on N
                                         generated files (feature `library`)
-oracle program PATH [--files N] [--seed S]   the program at PATH: the sheets, the boundaries, the fixed list's files and N
-                                        generated ones on its standard input, with a small stack";
+oracle program PATH [--files N] [--seed S]   the program at PATH: the sheets, the boundaries, N generated files and the fixed
+                                        list's on its standard input, with a small stack";
 
 /// Where the list stands, from the package's folder or from the repository's.
 const LISTS: [&str; 2] = ["fixed/answers.txt", "oracle/fixed/answers.txt"];
@@ -169,6 +169,9 @@ fn program(path: &str, options: &[&str]) -> Result<(), String> {
     let start = Instant::now();
     let asked = oracle::program::ask(path, files, seed)?;
     println!("{path}: {asked} files, each written as decided, in {:.1} s", start.elapsed().as_secs_f64());
+    let list = fs::read_to_string(list_path()?).map_err(|error| error.to_string())?;
+    let replayed = fixed::replay_program(&list, |file| oracle::program::run(path, file))?;
+    println!("{path}: {replayed} lines of the fixed list replayed");
     Ok(())
 }
 

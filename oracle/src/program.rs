@@ -1,7 +1,6 @@
 //! The program from outside: files on its standard input, what it writes held against the decision's.
 
 use crate::decision::{Decision, program as written};
-use crate::fixed;
 use crate::generate::file;
 use crate::record::{RECORD_BYTES, Record, bytes, kind, largest, parse};
 use crate::services::Services;
@@ -39,7 +38,7 @@ fn with_output_of(decision: &mut Decision, count: u64) -> Vec<u8> {
     bytes(&list)
 }
 
-/// The sheets, the lengths around the largest input and output, the fixed list, and generated files.
+/// The sheets, the lengths around the largest input and output, and generated files.
 fn all(decision: &mut Decision, files: u64, seed: u64) -> Vec<Asked> {
     let mut all: Vec<Asked> = SHEETS.iter().map(|sheet| asked(sheet.name, bytes(&parse(sheet.file)))).collect();
     let records = (OUTPUT / RECORD_BYTES) as u64;
@@ -48,15 +47,14 @@ fn all(decision: &mut Decision, files: u64, seed: u64) -> Vec<Asked> {
     all.push(asked("32,768 bytes of nothing known", vec![7; INPUT]));
     all.push(asked("32,769 bytes", vec![7; INPUT + 1]));
     all.push(asked("100,000 bytes", vec![0; 100_000]));
-    all.extend(fixed::cases().into_iter().map(|case| asked(case.note, case.file)));
     all.extend((0..files).map(|number| asked(format!("file {number} of seed {seed}"), file(seed, number).bytes)));
     all
 }
 
 /// What the program writes for a file, with a stack of 1,024 kilobytes.
-fn run(path: &str, file: &[u8]) -> Result<Vec<u8>, String> {
+pub fn run(path: &str, file: &[u8]) -> Result<Vec<u8>, String> {
     let mut child = Command::new("sh")
-        .args(["-c", "ulimit -s 1024; exec \"$0\"", path])
+        .args(["-c", "ulimit -s 1024 && exec \"$0\"", path])
         .stdin(Stdio::piped())
         .stdout(Stdio::piped())
         .spawn()

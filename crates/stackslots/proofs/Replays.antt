@@ -1,5 +1,5 @@
 -- The replay as a whole: from the places that are found, over the table of holders, to the sizes.
-use Prim.Native.Nat.{ℕ, _+_, _≤_}
+use Prim.Native.Nat.{ℕ, _≤_}
 use mathlib.Core.Path.{_≡_, ap, _∙_}
 use mathlib.Core.List.{List}
 use native.Mathlib.Omega.{arith}
@@ -10,7 +10,8 @@ use Rattle.holders.specs.declared.Holder.{Holder}
 use Rattle.holders.specs.Table.{nobody, holdersAfter, Replayable}
 use Rattle.stackslots.specs.Tables.{Lent, PlacesFound, Replayed}
 use Rattle.stackslots.specs.SlotSizes.{sizesOver}
-use Rattle.stackslots.specs.HolderSizes.{replayable, sizes-replayed, length-sizes}
+use Rattle.stackslots.specs.HolderSteps.{replayable}
+use Rattle.stackslots.specs.HolderSizes.{sizes-replayed, length-sizes}
 
 module _
     {s steps : List ℕ} {count : ℕ} {heads older tags places heads′ older′ tags′ places′ : List ℕ} {r : ℕ} (lent : Lent s steps count heads older tags)

@@ -7,7 +7,7 @@ mod replay;
 mod rules;
 mod write;
 
-pub use replay::{Replayed, replay, replay_refusals};
+pub use replay::{Replayed, replay, replay_program, replay_refusals};
 pub use write::write;
 
 use crate::generate::{Family, Random, file_of};

@@ -72,6 +72,32 @@ pub fn replay_refusals(list: &str, check: impl Fn(&[u8]) -> u32) -> Result<(u64,
     Ok((refused, let_pass))
 }
 
+/// Replays every line of the program against what it writes for the file; answers how many there are.
+pub fn replay_program(list: &str, written: impl Fn(&[u8]) -> Result<Vec<u8>, String>) -> Result<u64, String> {
+    let mut reader = Reader { lines: list.lines(), next: None };
+    let (mut number, mut asked, mut replayed) = (0, Vec::new(), 0);
+    while let Some((letter, numbers)) = reader.next() {
+        match letter {
+            'N' => {
+                number += 1;
+                asked = file(&mut reader)?;
+            }
+            'P' => {
+                let wrote = written(&asked)?;
+                let refusal = wrote.strip_prefix(b"refused ").map(|rest| String::from_utf8_lossy(rest).trim().to_string());
+                let said = match refusal {
+                    Some(refusal) => vec![refusal.parse().map_err(|_| format!("refused {refusal}"))?, 0],
+                    None => vec![0, wrote.len() as u64],
+                };
+                same(&format!("file {number}, line P"), numbers, said)?;
+                replayed += 1;
+            }
+            _ => continue,
+        }
+    }
+    Ok(replayed)
+}
+
 struct Reader<'a> {
     lines: Lines<'a>,
     next: Option<(char, Vec<u64>)>,
