@@ -1,7 +1,7 @@
 //! What is timed: the rows of the table, and the points of the plot.
 
 use crate::families::FAMILIES;
-use crate::plain::{self, Rest};
+use crate::plain::{self, Counting, Rest};
 use crate::timing::{Contender, Effort, medians};
 use oracle::library::Library;
 use oracle::record::records;
@@ -19,37 +19,49 @@ const OUTPUT: usize = 65_536;
 pub struct Times {
     pub library: f64,
     pub plain: f64,
+    /// The plain pass where it counts sets as the library does.
+    pub counting: f64,
     pub module: Option<f64>,
 }
 
 fn liveness(file: &[u8], effort: Effort) -> Times {
     let (mut our_ins, mut our_outs, mut ins, mut outs) = ([0; TABLE], [0; TABLE], [0; TABLE], [0; TABLE]);
+    let (mut more_ins, mut more_outs) = ([0; TABLE], [0; TABLE]);
     let mut library = || {
         black_box(Library.liveness(black_box(file), &mut our_ins, &mut our_outs));
     };
     let mut plain = || {
-        black_box(plain::liveness(black_box(file), &mut ins, &mut outs));
+        black_box(plain::liveness(black_box(file), &mut ins, &mut outs, Counting::Not));
     };
-    let times = medians(effort, &mut [Contender::Called(&mut library), Contender::Called(&mut plain)]);
-    Times { library: times[0], plain: times[1], module: None }
+    let mut counting = || {
+        black_box(plain::liveness(black_box(file), &mut more_ins, &mut more_outs, Counting::BitByBit));
+    };
+    let mut contenders =
+        [Contender::Called(&mut library), Contender::Called(&mut plain), Contender::Called(&mut counting)];
+    let times = medians(effort, &mut contenders);
+    Times { library: times[0], plain: times[1], counting: times[2], module: None }
 }
 
 fn rewriting(file: &[u8], lent: usize, rest: Rest, effort: Effort) -> Times {
-    let (mut ours, mut theirs) = (vec![0; lent], vec![0; lent]);
+    let (mut ours, mut theirs, mut more) = (vec![0; lent], vec![0; lent], vec![0; lent]);
     let mut library = || {
         black_box(Library.rewrite(black_box(file), 8, &mut ours));
     };
     let mut plain = || {
-        black_box(plain::rewrite(black_box(file), 8, &mut theirs, rest));
+        black_box(plain::rewrite(black_box(file), 8, &mut theirs, rest, Counting::Not));
+    };
+    let mut counting = || {
+        black_box(plain::rewrite(black_box(file), 8, &mut more, rest, Counting::BitByBit));
     };
     let (mut module, read) = (Module::default(), records(file));
     let mut module = || module.time(black_box(&read), 8).expect("the module is there");
-    let mut contenders = vec![Contender::Called(&mut library), Contender::Called(&mut plain)];
+    let mut contenders =
+        vec![Contender::Called(&mut library), Contender::Called(&mut plain), Contender::Called(&mut counting)];
     if PRESENT {
         contenders.push(Contender::Timed(&mut module));
     }
     let times = medians(effort, &mut contenders);
-    Times { library: times[0], plain: times[1], module: times.get(2).copied() }
+    Times { library: times[0], plain: times[1], counting: times[2], module: times.get(3).copied() }
 }
 
 /// How many bytes the rewritten file needs.
@@ -60,8 +72,8 @@ fn needed(file: &[u8]) -> usize {
 /// The table of docs/PERFORMANCE.md: ratios to plain Rust, and what they are ratios of.
 pub fn table(effort: Effort) -> String {
     let mut text = String::from(
-        "| file | records in | job | library / plain Rust | source module / plain Rust | plain Rust, µs |\n\
-         |---|---|---|---|---|---|\n",
+        "| file | records in | job | library / plain Rust | library / plain Rust that counts bit by bit too | source module / plain Rust | plain Rust, µs |\n\
+         |---|---|---|---|---|---|---|\n",
     );
     for (name, family) in FAMILIES {
         let file = family(2048);
@@ -73,9 +85,14 @@ pub fn table(effort: Effort) -> String {
         ];
         for (job, times) in jobs {
             let module = times.module.map_or("".to_string(), |time| format!("{:.2}", time / times.plain));
-            let (records, ratio) = (file.len() / 16, times.library / times.plain);
-            writeln!(text, "| {name} | {records} | {job} | {ratio:.2} | {module} | {:.1} |", times.plain)
-                .expect("a string takes what is written");
+            let (records, ratio, counted) =
+                (file.len() / 16, times.library / times.plain, times.library / times.counting);
+            writeln!(
+                text,
+                "| {name} | {records} | {job} | {ratio:.2} | {counted:.2} | {module} | {:.1} |",
+                times.plain
+            )
+            .expect("a string takes what is written");
         }
     }
     text

@@ -1,7 +1,7 @@
 //! The contenders answer the same: whole answers and whole buffers, on the families' files and on damaged copies of them.
 
 use crate::families::FAMILIES;
-use crate::plain::{self, Rest};
+use crate::plain::{self, Counting, Rest};
 use oracle::library::Library;
 use oracle::services::Services;
 
@@ -25,12 +25,14 @@ pub fn compare() {
 }
 
 fn same(name: &str, file: &[u8]) {
-    let (mut ours, mut theirs) = (vec![1u8; 1 << 20], vec![2u8; 1 << 20]);
-    let answer = Library.rewrite(file, 8, &mut ours);
-    assert_eq!(answer, plain::rewrite(file, 8, &mut theirs, Rest::Cleared), "rewriting, {name}");
-    assert!(ours == theirs, "rewritten records, {name}");
-    let (mut our_ins, mut our_outs, mut ins, mut outs) = ([1; TABLE], [2; TABLE], [3; TABLE], [4; TABLE]);
-    let answer = Library.liveness(file, &mut our_ins, &mut our_outs);
-    assert_eq!(answer, plain::liveness(file, &mut ins, &mut outs), "liveness, {name}");
-    assert!(our_ins == ins && our_outs == outs, "live tables, {name}");
+    for counting in [Counting::Not, Counting::BitByBit] {
+        let (mut ours, mut theirs) = (vec![1u8; 1 << 20], vec![2u8; 1 << 20]);
+        let answer = Library.rewrite(file, 8, &mut ours);
+        assert_eq!(answer, plain::rewrite(file, 8, &mut theirs, Rest::Cleared, counting), "rewriting, {name}");
+        assert!(ours == theirs, "rewritten records, {name}");
+        let (mut our_ins, mut our_outs, mut ins, mut outs) = ([1; TABLE], [2; TABLE], [3; TABLE], [4; TABLE]);
+        let answer = Library.liveness(file, &mut our_ins, &mut our_outs);
+        assert_eq!(answer, plain::liveness(file, &mut ins, &mut outs, counting), "liveness, {name}");
+        assert!(our_ins == ins && our_outs == outs, "live tables, {name}");
+    }
 }

@@ -1,5 +1,6 @@
 //! The process over rows of bits, and from its answer the list of each safepoint.
 
+use super::Counting;
 use super::accept::{Block, Function};
 use super::row::{Row, WORDS};
 use oracle::record::kind;
@@ -18,7 +19,7 @@ pub struct Lists {
 }
 
 impl Live {
-    pub fn solve(function: &Function) -> Live {
+    pub fn solve(function: &Function, counting: Counting) -> Live {
         let blocks = function.blocks.len();
         let mut predecessors = vec![Vec::new(); blocks];
         for (index, &block) in function.order.iter().enumerate() {
@@ -44,7 +45,11 @@ impl Live {
             for word in 0..WORDS {
                 grown.0[word] |= uses[block].0[word] | outs[block].0[word] & !kills[block].0[word];
             }
-            if grown != ins[block] {
+            let grew = match counting {
+                Counting::Not => grown != ins[block],
+                Counting::BitByBit => grown.counted() > ins[block].counted(),
+            };
+            if grew {
                 ins[block] = grown;
                 for &predecessor in &predecessors[block] {
                     is_pending[predecessor] = true;

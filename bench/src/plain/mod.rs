@@ -13,12 +13,21 @@ use accept::Function;
 use liveness::Live;
 use oracle::services::{LivenessAnswer, RewriteAnswer};
 use row::WORDS;
+use std::hint::black_box;
+
+/// Whether sets are counted where the library counts them: at each visit, and for the count of map entries.
+#[derive(Clone, Copy, PartialEq, Eq)]
+pub enum Counting {
+    Not,
+    BitByBit,
+}
 
 /// Both live tables, with zeros behind them.
-pub fn liveness(file: &[u8], live_in: &mut [u64], live_out: &mut [u64]) -> LivenessAnswer {
+pub fn liveness(file: &[u8], live_in: &mut [u64], live_out: &mut [u64], counting: Counting) -> LivenessAnswer {
     let enough = live_in.len() >= 64 * WORDS && live_out.len() >= 64 * WORDS;
-    let found = Function::accept(file)
-        .and_then(|function| if enough { Ok((Live::solve(&function), function.blocks.len())) } else { Err(11) });
+    let found = Function::accept(file).and_then(|function| {
+        if enough { Ok((Live::solve(&function, counting), function.blocks.len())) } else { Err(11) }
+    });
     match found {
         Err(refusal) => {
             live_in.fill(0);
@@ -48,8 +57,8 @@ pub enum Rest {
 }
 
 /// The rewritten records at the front of the output.
-pub fn rewrite(file: &[u8], pointer_size: u32, output: &mut [u8], rest: Rest) -> RewriteAnswer {
-    let answer = rewritten(file, pointer_size, output);
+pub fn rewrite(file: &[u8], pointer_size: u32, output: &mut [u8], rest: Rest, counting: Counting) -> RewriteAnswer {
+    let answer = rewritten(file, pointer_size, output, counting);
     if rest == Rest::Cleared {
         let written = if answer.refusal == 0 && !answer.unchanged { answer.records as usize * 16 } else { 0 };
         output[written..].fill(0);
@@ -57,7 +66,7 @@ pub fn rewrite(file: &[u8], pointer_size: u32, output: &mut [u8], rest: Rest) ->
     answer
 }
 
-fn rewritten(file: &[u8], pointer_size: u32, output: &mut [u8]) -> RewriteAnswer {
+fn rewritten(file: &[u8], pointer_size: u32, output: &mut [u8], counting: Counting) -> RewriteAnswer {
     let refused = |refusal| RewriteAnswer { refusal, ..RewriteAnswer::default() };
     if pointer_size != 4 && pointer_size != 8 {
         return refused(1);
@@ -66,7 +75,7 @@ fn rewritten(file: &[u8], pointer_size: u32, output: &mut [u8]) -> RewriteAnswer
         Ok(function) => function,
         Err(refusal) => return refused(refusal),
     };
-    let live = Live::solve(&function);
+    let live = Live::solve(&function, counting);
     let lists = live.lists(&function);
     if lists.spilled.iter().any(|value| !matches!(function.sizes[value], 1 | 2 | 4 | 8 | 16)) {
         return refused(9);
@@ -75,6 +84,9 @@ fn rewritten(file: &[u8], pointer_size: u32, output: &mut [u8]) -> RewriteAnswer
     if lists.spilled.is_empty() {
         let records = function.records.len() as u64;
         return RewriteAnswer { records, visits, pushes, unchanged: true, ..RewriteAnswer::default() };
+    }
+    if counting == Counting::BitByBit {
+        black_box(lists.spilled.counted() + lists.rows.iter().map(row::Row::counted).sum::<usize>());
     }
     let plan = plan::plan(&function, &live, &lists, pointer_size);
     if output.len() / 16 < plan.records {

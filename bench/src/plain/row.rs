@@ -28,6 +28,11 @@ impl Row {
         }
     }
 
+    /// How many values there are, a bit at a time, as the library still counts them.
+    pub fn counted(&self) -> usize {
+        (0..64 * WORDS).filter(|&value| self.has(value)).count()
+    }
+
     pub fn is_empty(&self) -> bool {
         self.0 == [0; WORDS]
     }
