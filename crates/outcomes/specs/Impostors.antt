@@ -14,11 +14,12 @@ use Rattle.rules.specs.Refusals.{refusalNumber, fileRefusals}
 use Rattle.rules.specs.Slots.{giveSlot, freeSlot}
 use Rattle.rules.specs.Plan.{planned}
 use Rattle.rules.specs.Rewriting.{rewritten}
-use Rattle.rules.specs.Services.{listVerdict, listAnswer, recordsOf, rewritingVerdict, rewritingAnswer, rewritingOutput}
+use Rattle.rules.specs.Services.{livenessVerdict, livenessAnswer, listVerdict, listAnswer, recordsOf, rewritingVerdict, rewritingAnswer, rewritingOutput}
 use Rattle.rules.specs.SheetFiles.{file, p1, p2, p3, p5}
+use Rattle.rules.specs.declared.LivenessAnswer.{LivenessAnswer}
 use Rattle.rules.specs.declared.ListAnswer.{ListAnswer}
 use Rattle.rules.specs.declared.RewritingAnswer.{RewritingAnswer}
-use Rattle.outcomes.specs.Outcomes.{ListAllows, RewritingAllows}
+use Rattle.outcomes.specs.Outcomes.{LivenessAllows, ListAllows, RewritingAllows}
 
 -- a lent output with room for every sheet
 abbrev lent : ℕ
@@ -63,6 +64,12 @@ module _ (answer : RewritingAnswer) (out : List ℕ) where
       p2 rewritingAnswer rewritingVerdict recordsOf fileRefusals decode recordAt records firstWords followers follows function functionRecords reachable process listsOf isSpilled giveSlot freeSlot planned rewritten
   visits-counted h = (ap (λ (a : RewritingAnswer). a .visits) (h .0), ap (λ (a : RewritingAnswer). a .pushes) (h .0))
 
+  -- P5's maps do not list every marked value: with those entries it would have more records
+  pub not-all-in-maps : RewritingAllows (file p5) 8 lent answer out → answer .records ≡ 38
+  unfolding
+      p5 rewritingAnswer rewritingVerdict recordsOf fileRefusals decode recordAt records firstWords followers follows function functionRecords reachable process listsOf isSpilled giveSlot freeSlot planned rewritten
+  not-all-in-maps h = ap (λ (a : RewritingAnswer). a .records) (h .0)
+
   -- P3's two values share a slot
   pub slots-shared : RewritingAllows (file p3) 8 lent answer out → answer .slots ≡ 1
   unfolding
@@ -74,3 +81,9 @@ pub not-all-listed : (answer : ListAnswer) (numbers : List ℕ) → ListAllows (
 unfolding
     p5 listAnswer listVerdict fileRefusals decode recordAt records firstWords followers follows function reachable process listsOf
 not-all-listed answer numbers h = ap (λ (a : ListAnswer). a .count) (h .0)
+
+-- liveness alone counts P2's visits and pushes alike
+pub live-visits-counted : (answer : LivenessAnswer) (ins outs : List ℕ) → LivenessAllows (file p2) 512 512 answer ins outs → (answer .visits ≡ 5) × (answer .pushes ≡ 8)
+unfolding
+    p2 livenessAnswer livenessVerdict fileRefusals decode recordAt records firstWords followers follows function reachable process
+live-visits-counted answer ins outs h = (ap (λ (a : LivenessAnswer). a .visits) (h .0), ap (λ (a : LivenessAnswer). a .pushes) (h .0))
