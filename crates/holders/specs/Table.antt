@@ -38,8 +38,8 @@ changed c table =
 abbrev pub Reaches : Change → List Holder → Type 0
 Reaches c table = T (c .takes || c .gives) → c .at < length table
 
--- What a step does: an even one gives its value a slot, an odd one takes it back. Its place is one more than the slot's
--- number, 0 where nothing changes.
+-- What a step does: in an even one its value takes a slot, in an odd one it gives the slot back. Its place is one more than the
+-- slot's number, 0 where nothing changes.
 abbrev pub changeOf : ℕ → ℕ → ℕ → Change
 changeOf step place size =
     record {

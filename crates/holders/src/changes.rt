@@ -12,8 +12,8 @@ use crate::entries::give;
 use crate::entries::take;
 use records::values::size_of;
 
-// What a step does: an even one gives its value a slot, an odd one takes it back. Its place is one more than the slot's
-// number, 0 where nothing changes.
+// What a step does: in an even one its value takes a slot, in an odd one it gives the slot back. Its place is one more than the
+// slot's number, 0 where nothing changes.
 fn change_of(noted: u32, place: u32, size: u32) -> Change
     ensures { λ r. ⌜ r ≡ changeOf noted place size ⌝ }
 {
