@@ -1,9 +1,12 @@
 -- Looking for the next edge, one record at a time.
-use Prim.Native.Nat.{ℕ, zero, suc, _+_, _<_, _≤_}
+use Prim.Native.Nat.{ℕ, suc, _+_, _<_, _≤_}
 use mathlib.Core.Path.{_≡_, refl, sym, ap, _∙_}
 use mathlib.Core.List.{List}
 use native.Mathlib.Numerals.{add-one}
-use Rattle.rules.specs.Records.{recordAt, recordCount}
+use lib.Dec.{eqb, eqb→eq, not-T}
+use Rattle.rules.specs.declared.Words.{Words}
+use Rattle.rules.specs.Records.{encode, kind, recordAt, recordCount}
+use Rattle.lists.specs.Tests.{eq→eqb, chosen, left-out}
 use Rattle.graph.specs.Between.{between, between-none, between-more}
 use Rattle.graph.specs.NextEdge.{edgeTag, edgeOr, nextEdge, edgeFrom}
 
@@ -13,21 +16,25 @@ module _ (s : List ℕ) where
   unfolding edgeFrom
   edgeFrom-end i q e = rw (← e, between-none s i)
 
-  module _ (i q tag : ℕ) (l : i < q) (k : q ≤ recordCount s) (e : tag ≡ edgeTag (recordAt s i)) where
-    first : edgeFrom s i q ≡ edgeOr tag (i + 1) (edgeFrom s (i + 1) q)
+  module _ (i q : ℕ) (l : i < q) (k : q ≤ recordCount s) where
+    first : edgeFrom s i q ≡ edgeOr (edgeTag (recordAt s i)) (i + 1) (edgeFrom s (i + 1) q)
     unfolding edgeFrom
     first =
         ap (nextEdge i) (between-more s i q l k)
-        ∙ (λ t. edgeOr (sym e t) (sym (add-one i) t) (nextEdge (sym (add-one i) t) (between s (sym (add-one i) t) q)))
+        ∙ (λ t. edgeOr (edgeTag (recordAt s i)) (sym (add-one i) t) (nextEdge (sym (add-one i) t) (between s (sym (add-one i) t) q)))
 
-    -- the record is an edge
-    pub edgeFrom-here : (tag ≡ 0 → ⊥) → edgeFrom s i q ≡ record { tag = tag; behind = i + 1 }
-    edgeFrom-here some = first ∙ is-edge tag some
-      where
-        is-edge : (t : ℕ) → (t ≡ 0 → ⊥) → edgeOr t (i + 1) (edgeFrom s (i + 1) q) ≡ record { tag = t; behind = i + 1 }
-        is-edge zero h = absurd (h refl)
-        is-edge (suc t) h = refl
+    -- the record is an edge, with these words
+    pub edgeFrom-here : (w : Words) → w ≡ encode (recordAt s i) → w .kind ≡ 7 → edgeFrom s i q ≡ record { tag = w .second + 1; behind = i + 1 }
+    edgeFrom-here w e is =
+        let tag : edgeTag (recordAt s i) ≡ suc (w .second) =
+        chosen (eqb (kind (recordAt s i)) 7) (suc (encode (recordAt s i) .second)) 0 (eq→eqb (sym (ap (λ (x : Words). x .kind) e) ∙ is))
+        ∙ ap (λ (x : Words). suc (x .second)) (sym e) in
+        first ∙ ap (λ (t : ℕ). edgeOr t (i + 1) (edgeFrom s (i + 1) q)) tag
+        ∙ ap (λ (t : ℕ). record { tag = t; behind = i + 1 }) (sym (add-one (w .second)))
 
     -- it is another
-    pub edgeFrom-later : tag ≡ 0 → edgeFrom s i q ≡ edgeFrom s (i + 1) q
-    edgeFrom-later none = first ∙ ap (λ (t : ℕ). edgeOr t (i + 1) (edgeFrom s (i + 1) q)) none
+    pub edgeFrom-later : (kind (recordAt s i) ≡ 7 → ⊥) → edgeFrom s i q ≡ edgeFrom s (i + 1) q
+    edgeFrom-later other =
+        first
+        ∙ ap (λ (t : ℕ). edgeOr t (i + 1) (edgeFrom s (i + 1) q))
+        (left-out (eqb (kind (recordAt s i)) 7) (suc (encode (recordAt s i) .second)) 0 (not-T (eqb (kind (recordAt s i)) 7) (λ t. other (eqb→eq (kind (recordAt s i)) 7 t))))

@@ -1,11 +1,12 @@
 // The lists of predecessors, linked through lent tables. A table of blocks has the tag of each list's first entry; a tag is 0
 // for none, and one more than the entry's place.
 ghost use mathlib.Core.Path.{_≡_};
+ghost use mathlib.Core.Bool.{true};
 ghost use Prim.Native.Nat.{_-_, _≤_, _<_};
 ghost use lib.ListN.{length};
 ghost use Rattle.rules.specs.Lists.{foldl};
-ghost use Rattle.rules.specs.Records.{recordCount};
-ghost use Rattle.rules.specs.File.{named, functionIn};
+ghost use Rattle.rules.specs.Records.{recordCount, records};
+ghost use Rattle.rules.specs.File.{named, ordered, functionIn};
 ghost use Rattle.graph.specs.Between.{between};
 ghost use Rattle.graph.specs.Links.{links, linkEdge, linked, Linkable, LentLinks, Walked};
 use crate::edges::next_edge;
@@ -40,7 +41,7 @@ fn link_block(
     used: usize,
     p: usize,
 ) -> usize
-    requires { ⌜ (start ≤ end) × (end ≤ recordCount (now s)) × Linkable (named 7 (between (now s) start end)) (links (now first) (now from) (now next) used) ⌝ }
+    requires { ⌜ (start ≤ end) × (end ≤ recordCount (now s)) × Linkable (named 7 (between (now s) start end)) (links (now first) (now from) (now next) used) × (ordered 0 (records (now s)) ≡ true) ⌝ }
     ensures { λ r. ⌜ links (now (first .exit)) (now (from .exit)) (now (next .exit)) r ≡ foldl (linkEdge p) (links (now (first .entry)) (now (from .entry)) (now (next .entry)) used) (named 7 (between (now (s .entry)) start end)) ⌝ }
 {
     let mut count = used;

@@ -1,11 +1,12 @@
 -- `graph::edges::next_edge` meets its contract.
 use borrow.Author.Needs.{needs}
-use Rattle.graph.proofs.Looking.{edgeFrom-here, edgeFrom-later, edgeFrom-end}
-use Rattle.graph.specs.NextEdge.{edgeTag, edgeFrom}
-use Rattle.rules.specs.Records.{recordAt}
-use native.Mathlib.Omega.{arith}
+use Prim.Native.Nat.{_≤_, _-_, ℕ, _+_}
 use mathlib.Core.Path.{_≡_, refl, sym, ap, _∙_}
-use Prim.Native.Nat.{_≤_, _-_}
+use native.Mathlib.Omega.{arith}
+use Rattle.rules.specs.declared.Words.{Words}
+use Rattle.rules.specs.Records.{kind}
+use Rattle.graph.specs.NextEdge.{edgeFrom}
+use Rattle.graph.proofs.Looking.{edgeFrom-here, edgeFrom-later, edgeFrom-end}
 use Rattle.graph.proofs.edges.next_edge.Statement.{statement}
 use Rattle.graph.proofs.edges.next_edge.Tie as tie
 
@@ -18,42 +19,40 @@ abbrev μ-loop : tie.MeasureT-loop
 loop-holds : tie.Need-loop-holds Inv-loop μ-loop
 loop-holds c = (search needs, refl)
 
-record-at-requires : tie.Need-record-at-requires Inv-loop μ-loop
-record-at-requires c κs = search needs
+kind-at-requires : tie.Need-kind-at-requires Inv-loop μ-loop
+kind-at-requires c κs = search needs
 
-edge-tag-requires : tie.Need-edge-tag-requires Inv-loop μ-loop
-edge-tag-requires c κs = search needs
+words-at-requires : tie.Need-words-at-requires Inv-loop μ-loop
+words-at-requires c κs = search needs
 
-add-i : tie.Need-add-i Inv-loop μ-loop
-add-i c = search needs
+wide-requires : tie.Need-wide-requires Inv-loop μ-loop
+wide-requires c κs = search needs
+
+add-tag : tie.Need-add-tag Inv-loop μ-loop
+add-tag c = search needs
+
+add-t9 : tie.Need-add-t9 Inv-loop μ-loop
+add-t9 c = search needs
 
 returns : tie.Need-returns Inv-loop μ-loop
 returns c =
-    let start = c .before .before .before .before .before .before in
-    let loop = c .before .before .before .before .loop in
-    let test = c .before .before .before .loop-test in
-    let record-at = c .before .before .record-at in
-    let s = start .args .s .now in
-    let e : c .before .edge-tag .result ≡ edgeTag (recordAt s (loop .i)) = c .before .edge-tag .ensures ∙ ap edgeTag (record-at .ensures) in
-    sym (edgeFrom-here s (loop .i) (start .args .end) (c .before .edge-tag .result) (test .taken) (start .pre .1) e (c .if1 .taken)) ∙ loop .inv .1
+    let is : c .before .words-at .result .kind ≡ 7 = ap (λ (w : Words). w .kind) (c .before .words-at .ensures) ∙ sym (c .before .before .before .kind-at .ensures .0) ∙ c .before .before .if1 .taken in
+    let here = edgeFrom-here (c .before .before .before .before .before .before .before .args .s .now) (c .before .before .before .before .before .loop .i) (c .before .before .before .before .before .before .before .args .end) (c .before .before .before .before .loop-test .taken) (c .before .before .before .before .before .before .before .pre .1) (c .before .words-at .result) (c .before .words-at .ensures) is in
+    ap (λ (t : ℕ). record { tag = t + 1; behind = c .before .before .before .before .before .loop .i + 1 }) (c .wide .ensures .0) ∙ sym here ∙ c .before .before .before .before .before .loop .inv .1
+
+add-i : tie.Need-add-i Inv-loop μ-loop
+add-i c = search needs
 
 loop-less : tie.Need-loop-less Inv-loop μ-loop
 loop-less c = search needs
 
 loop-again : tie.Need-loop-again Inv-loop μ-loop
 loop-again c =
-    let start = c .before .before .before .before .before .before in
-    let loop = c .before .before .before .before .loop in
-    let test = c .before .before .before .loop-test in
-    let record-at = c .before .before .record-at in
-    let s = start .args .s .now in
-    let e : c .before .edge-tag .result ≡ edgeTag (recordAt s (loop .i)) = c .before .edge-tag .ensures ∙ ap edgeTag (record-at .ensures) in
-    (search needs, sym (edgeFrom-later s (loop .i) (start .args .end) (c .before .edge-tag .result) (test .taken) (start .pre .1) e (c .if1 .left)) ∙ loop .inv .1)
+    (search needs, sym (edgeFrom-later (c .before .before .before .before .before .args .s .now) (c .before .before .before .loop .i) (c .before .before .before .before .before .args .end) (c .before .before .loop-test .taken) (c .before .before .before .before .before .pre .1) (λ e. c .if1 .left (c .before .kind-at .ensures .0 ∙ e))) ∙ c .before .before .before .loop .inv .1)
 
 returns-2 : tie.Need-returns-2 Inv-loop μ-loop
 returns-2 c =
-    let start = c .before .before .before in
-    sym (edgeFrom-end (start .args .s .now) (c .before .loop .i) (start .args .end) (omega arith)) ∙ c .before .loop .inv .1
+    sym (edgeFrom-end (c .before .before .before .args .s .now) (c .before .loop .i) (c .before .before .before .args .end) (omega arith)) ∙ c .before .loop .inv .1
 
 pub next-edge-spec : {M : Type 1} → statement M
 next-edge-spec =
@@ -62,10 +61,13 @@ next-edge-spec =
     Inv-loop
     μ-loop
     loop-holds
-    record-at-requires
-    edge-tag-requires
-    add-i
+    kind-at-requires
+    words-at-requires
+    wide-requires
+    add-tag
+    add-t9
     returns
+    add-i
     loop-less
     loop-again
     returns-2)

@@ -3,7 +3,7 @@ use borrow.Author.Needs.{needs}
 use Rattle.graph.specs.Zeros.{sets-padded}
 use Rattle.graph.proofs.Filling.{placesFrom, placesFrom-all, placesFrom-done, filled, filled-all, filled-done, filled-more, left-more}
 use Rattle.graph.specs.Placed.{placesOf, placeTable, length-placeTable}
-use Rattle.rules.specs.Records.{recordCount, recordAt, kind}
+use Rattle.rules.specs.Records.{recordCount}
 use Rattle.graph.specs.Sections.{placeIf}
 use mathlib.Core.List.{[]}
 use lib.Dec.{eqb}
@@ -29,15 +29,12 @@ loop-holds c =
     let s = start .args .s .now in
     let k = start .args .k in (omega arith, refl, omega (arith, ap length (placesFrom-all s k)), filled-all s k (start .args .places .now))
 
-record-at-requires : tie.Need-record-at-requires Inv-loop μ-loop
-record-at-requires c κs = search needs
-
-kind-of-requires : tie.Need-kind-of-requires Inv-loop μ-loop
-kind-of-requires c κs = search needs
+kind-at-requires : tie.Need-kind-at-requires Inv-loop μ-loop
+kind-at-requires c κs = search needs
 
 note-requires : tie.Need-note-requires Inv-loop μ-loop
 note-requires c κs =
-    let start = c .before .before .before .before .before .before .before in
+    let start = c .before .before .before .before .before .before in
     omega (arith, start .pre .0)
 
 add-i : tie.Need-add-i Inv-loop μ-loop
@@ -48,17 +45,17 @@ loop-less c = search needs
 
 loop-again : tie.Need-loop-again Inv-loop μ-loop
 loop-again c =
-    let start = c .before .before .before .before .before .before .before .before .before .before in
-    let loop = c .before .before .before .before .before .before .before .loop in
-    let kind-of = c .before .before .before .kind-of in
+    let start = c .before .before .before .before .before .before .before .before .before in
+    let loop = c .before .before .before .before .before .before .loop in
+    let kind-at = c .before .before .before .kind-at in
     let note = c .before .before .note in
     let s = start .args .s .now in
     let wanted = start .args .k in
-    let k : kind-of .result ≡ kind (recordAt s (loop .i)) = cc in
-    let l = left-more s wanted (loop .i) (kind-of .result) (search needs) k in
-    let f = filled-more s wanted (loop .i) (kind-of .result) (search needs) k (loop .places) (loop .found) in (
+    let k = kind-at .ensures .0 in
+    let l = left-more s wanted (loop .i) (kind-at .result) (search needs) k in
+    let f = filled-more s wanted (loop .i) (kind-at .result) (search needs) k (loop .places) (loop .found) in (
       search needs,
-      ap length (note .ensures .0) ∙ length-sets (loop .places) (loop .found) (placeIf (eqb (kind-of .result) wanted) (loop .i) []) ∙ loop .inv .1,
+      ap length (note .ensures .0) ∙ length-sets (loop .places) (loop .found) (placeIf (eqb (kind-at .result) wanted) (loop .i) []) ∙ loop .inv .1,
       omega (arith, note .ensures .1),
       (λ t. filled s wanted (note .ensures .0 t) (note .ensures .1 t) (loop .i + 1)) ∙ sym f ∙ loop .inv .3,
     )
@@ -90,8 +87,7 @@ places-of-spec =
     Inv-loop
     μ-loop
     loop-holds
-    record-at-requires
-    kind-of-requires
+    kind-at-requires
     note-requires
     add-i
     loop-less

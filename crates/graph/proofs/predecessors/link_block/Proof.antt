@@ -21,7 +21,7 @@ abbrev μ-loop : tie.MeasureT-loop
 μ-loop s start end first₀ from₀ next₀ used p count₀ edge₀ first from next count edge = length (targetsFrom s end (edge .tag) (edge .behind))
 
 next-edge-requires : tie.Need-next-edge-requires Inv-loop μ-loop
-next-edge-requires c κs = (c .before .before .before .before .pre .0, c .before .before .before .before .pre .1)
+next-edge-requires c κs = search needs
 
 loop-holds : tie.Need-loop-holds Inv-loop μ-loop
 loop-holds c =
@@ -41,7 +41,7 @@ next-edge-requires-2 : tie.Need-next-edge-requires-2 Inv-loop μ-loop
 next-edge-requires-2 c κs =
     let start = c .before .before .before .before .before .before .before .before .before .before .before .before .before .before .before .before .before .before .before in
     let loop = c .before .before .before .before .before .before .before .before .before .before .before .before .before .loop in
-    (linking-inside (start .args .s .now) (start .args .end) (start .args .p) (start .pre .1) _ _ _ (loop .inv .3) (omega arith), start .pre .1)
+    (linking-inside (start .args .s .now) (start .args .end) (start .args .p) (start .pre .1) _ _ _ (loop .inv .3) (omega arith), start .pre .1, start .pre .3)
 
 loop-less : tie.Need-loop-less Inv-loop μ-loop
 loop-less c =

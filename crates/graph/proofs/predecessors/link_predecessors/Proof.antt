@@ -8,6 +8,7 @@ use Rattle.rules.specs.Lists.{foldl}
 use Rattle.rules.specs.File.{named}
 use Rattle.graph.specs.Between.{between}
 use Prim.Native.Nat.{ℕ, _+_, _-_}
+use Rattle.lists.specs.Tests.{is-true}
 use Rattle.graph.proofs.predecessors.link_predecessors.Statement.{statement}
 use Rattle.graph.proofs.predecessors.link_predecessors.Tie as tie
 
@@ -76,7 +77,7 @@ shared-slice-read-link-block-2 c = known (c .before .before .before) .listed
 link-block-requires : tie.Need-link-block-requires Inv-loop μ-loop
 link-block-requires c κs =
     let inside = c .before .before .before .before .before .before in
-    (known inside .starts, known inside .ends, known inside .linkable)
+    (known inside .starts, known inside .ends, known inside .linkable, is-true _ (start-of (inside .before) .pre .0 .given .inOrder))
 
 add-done : tie.Need-add-done Inv-loop μ-loop
 add-done c = omega (arith, c .before .before .before .before .before .before .before .before .before .before .before .before .before .before .loop-test .taken)

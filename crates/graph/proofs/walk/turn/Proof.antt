@@ -5,6 +5,7 @@ use mathlib.Core.Logic.{_≢_}
 use lib.ListN.{getD, length-set}
 use Rattle.graph.specs.NextEdge.{edgeFrom}
 use Rattle.graph.specs.declared.edges.NextEdge.{NextEdge}
+use Rattle.lists.specs.Tests.{is-true}
 use native.Mathlib.Omega.{arith}
 use mathlib.Core.Path.{_≡_, sym, _∙_}
 use Prim.Native.Nat.{_+_, _-_}
@@ -60,7 +61,7 @@ shared-slice-read-next-edge c = omega (arith, known (c .before .before .before .
 next-edge-requires : tie.Need-next-edge-requires
 next-edge-requires c κs =
     let inside = c .before .before .before .before .before .before .before .before .before .before in
-    (known inside .looks, known inside .ends)
+    (known inside .looks, known inside .ends, is-true _ (inside .pre .1 .given .inOrder))
 
 finish-requires : tie.Need-finish-requires
 finish-requires c κs =
