@@ -19,12 +19,12 @@ use Rattle.records.specs.Parts.{blocks-more}
 abbrev pub numberedBy : Words → ℕ → Bool
 numberedBy w n = not (eqb 2 (w .kind)) || eqb (w .third) n
 
-module _ (r : Record) (n : ℕ) (w : Words) (e : w ≡ encode r) where
-  pub other-kind : (w .kind ≡ 2 → ⊥) → true ≡ numberedBy (encode r) n
-  other-kind k = sym (ap (λ b. not b || eqb (w .third) n) (ne-eqb 2 (w .kind) (λ q. k (sym q)))) ∙ ap (λ x. numberedBy x n) e
+module _ (w : Words) (n : ℕ) where
+  pub other-kind : (w .kind ≡ 2 → ⊥) → true ≡ numberedBy w n
+  other-kind k = sym (ap (λ b. not b || eqb (w .third) n) (ne-eqb 2 (w .kind) (λ q. k (sym q))))
 
-  pub block-kind : w .kind ≡ 2 → eqb (w .third) n ≡ numberedBy (encode r) n
-  block-kind k = sym (ap (λ j. not (eqb 2 j) || eqb (w .third) n) k) ∙ ap (λ x. numberedBy x n) e
+  pub block-kind : w .kind ≡ 2 → eqb (w .third) n ≡ numberedBy w n
+  block-kind k = sym (ap (λ j. not (eqb 2 j) || eqb (w .third) n) k)
 
 numbered-more : (n : ℕ) (r : Record) (rs : List Record)
     → numberedFrom n (function (r ∷ rs) .blocks)

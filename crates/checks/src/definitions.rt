@@ -9,9 +9,8 @@ ghost use Rattle.rules.specs.Records.{records};
 ghost use Rattle.rules.specs.File.{functionIn};
 ghost use Rattle.rules.specs.Refusals.{definedOnce};
 ghost use Rattle.checks.specs.Definitions.{defines, noted, notedAll, Countable};
-use crate::numbers::kind_count;
-use records::record_at;
-use records::words_of;
+use crate::numbers::value_count;
+use records::in_order::words_at;
 use rules::RECORD_BYTES;
 use rules::Words;
 
@@ -44,7 +43,7 @@ pub fn count_definitions(s: &[u8], counts: &mut [u32])
     let n = s.len() / RECORD_BYTES;
     let mut i: usize = 0;
     while i < n {
-        note_definition(words_of(record_at(s, i)), counts);
+        note_definition(words_at(s, i), counts);
         i += 1;
     }
 }
@@ -71,5 +70,5 @@ pub fn not_defined_once(s: &[u8], counts: &mut [u32]) -> bool
         ⌜ (r ≡ not (definedOnce (functionIn (now (s .entry))))) × (now (counts .exit) ≡ notedAll (now (counts .entry)) (records (now (s .entry)))) ⌝ }
 {
     count_definitions(s, counts);
-    !each_once(counts, kind_count(s, 1))
+    !each_once(counts, value_count(s))
 }

@@ -9,21 +9,37 @@ ghost use Rattle.rules.specs.File.{ofKind, ordered, functionIn};
 ghost use Rattle.rules.specs.Refusals.{numbersInFile};
 ghost use Rattle.checks.specs.Numbers.{numbersFit};
 use crate::counts::one_if_same;
-use records::kind_of;
-use records::record_at;
-use records::words_of;
+use records::in_order::kind_at;
+use records::in_order::words_at;
 use rules::RECORD_BYTES;
 use rules::Words;
 
-// How many records of a file are of kind k.
+// How many values a file in order has: they stand first.
+pub fn value_count(s: &[u8]) -> usize
+    requires { ⌜ ordered 0 (records (now s)) ≡ true ⌝ }
+    ensures { λ r. ⌜ r ≡ length (ofKind 1 (records (now (s .entry)))) ⌝ }
+{
+    let n = s.len() / RECORD_BYTES;
+    let mut i: usize = 0;
+    while i < n {
+        if kind_at(s, i) != 1 {
+            return i;
+        }
+        i += 1;
+    }
+    i
+}
+
+// How many records of a file in order are of kind k.
 pub fn kind_count(s: &[u8], k: u32) -> usize
+    requires { ⌜ ordered 0 (records (now s)) ≡ true ⌝ }
     ensures { λ r. ⌜ r ≡ length (ofKind k (records (now (s .entry)))) ⌝ }
 {
     let n = s.len() / RECORD_BYTES;
     let mut found: usize = 0;
     let mut i: usize = 0;
     while i < n {
-        found += one_if_same(kind_of(record_at(s, i)), k);
+        found += one_if_same(kind_at(s, i), k);
         i += 1;
     }
     found
@@ -70,11 +86,11 @@ pub fn not_in_file(s: &[u8]) -> bool
     ensures { λ r. ⌜ r ≡ not (numbersInFile (functionIn (now (s .entry)))) ⌝ }
 {
     let n = s.len() / RECORD_BYTES;
-    let values = kind_count(s, 1);
+    let values = value_count(s);
     let blocks = kind_count(s, 2);
     let mut i: usize = 0;
     while i < n {
-        if !numbers_fit(words_of(record_at(s, i)), values, blocks) {
+        if !numbers_fit(words_at(s, i), values, blocks) {
             return true;
         }
         i += 1;

@@ -1,17 +1,17 @@
 // Refusal 4: the order of records, words outside the table, and blocks numbered by their position.
 ghost use mathlib.Core.Path.{_≡_};
 ghost use Prim.Native.Nat.{_<_};
-ghost use mathlib.Core.Bool.{not, _&&_, _||_};
+ghost use mathlib.Core.Bool.{true, not, _&&_, _||_};
 ghost use lib.Dec.{eqb};
-ghost use Rattle.rules.specs.Records.{encode, kind, records};
+ghost use Rattle.rules.specs.Records.{records};
 ghost use Rattle.rules.specs.File.{follows, ordered, functionIn};
 ghost use Rattle.rules.specs.Refusals.{numberedFrom};
 use crate::counts::one_if_same;
+use records::in_order::words_at;
 use records::kind_of;
 use records::record_at;
-use records::words_of;
 use rules::RECORD_BYTES;
-use rules::Record;
+use rules::Words;
 
 // The kinds that may stand behind a kind, kind k at bit k; row 0 is the start of the file, and behind an output's kinds
 // nothing may stand.
@@ -61,30 +61,30 @@ pub fn in_order(s: &[u8]) -> bool
     4 <= p
 }
 
-// Whether a record that opens a block has this number; another record has any.
-fn numbered_as(r: Record, number: usize) -> bool
-    ensures { λ x. ⌜ x ≡ (not (eqb 2 (kind r)) || eqb (encode r .third) number) ⌝ }
+// Whether four words that open a block have this number; others have any.
+fn numbered_as(w: Words, number: usize) -> bool
+    ensures { λ r. ⌜ r ≡ (not (eqb 2 (w .kind)) || eqb (w .third) number) ⌝ }
 {
-    let w = words_of(r);
     if w.kind != 2 {
         return true;
     }
     w.third as usize == number
 }
 
-// Whether each block's number is its position.
+// Whether each block's number is its position, in a file in order.
 pub fn blocks_numbered(s: &[u8]) -> bool
+    requires { ⌜ ordered 0 (records (now s)) ≡ true ⌝ }
     ensures { λ r. ⌜ r ≡ numberedFrom 0 (functionIn (now (s .entry)) .blocks) ⌝ }
 {
     let n = s.len() / RECORD_BYTES;
     let mut number: usize = 0;
     let mut i: usize = 0;
     while i < n {
-        let r = record_at(s, i);
-        if !numbered_as(r, number) {
+        let w = words_at(s, i);
+        if !numbered_as(w, number) {
             return false;
         }
-        number += one_if_same(2, kind_of(r));
+        number += one_if_same(2, w.kind);
         i += 1;
     }
     true

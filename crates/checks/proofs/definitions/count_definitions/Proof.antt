@@ -6,7 +6,7 @@ use Rattle.checks.specs.Definitions.{defines, noted, notedAll, noted-len
 use Rattle.checks.specs.Numbers.{fit}
 use Rattle.records.specs.Places.{rest, rest-all, restBy-done}
 use Rattle.rules.specs.File.{functionIn}
-use Rattle.rules.specs.Records.{recordCount, records, recordAt, encode}
+use Rattle.rules.specs.Records.{recordCount, records, recordAt}
 use Rattle.rules.specs.Lists.{all}
 use lib.ListN.{getD, length}
 use lib.Dec.{T}
@@ -34,23 +34,20 @@ loop-holds c =
       subst (λ rs. T (all (fit (length (functionIn s .values)) (length (functionIn s .blocks))) rs)) (sym (rest-all s)) (countable-fit (c .before .before .pre)),
     )
 
-record-at-requires : tie.Need-record-at-requires Inv-loop μ-loop
-record-at-requires c κs = search needs
-
-words-of-requires : tie.Need-words-of-requires Inv-loop μ-loop
-words-of-requires c κs = search needs
+words-at-requires : tie.Need-words-at-requires Inv-loop μ-loop
+words-at-requires c κs = (search needs, c .before .before .before .before .pre .inOrder)
 
 note-definition-requires : tie.Need-note-definition-requires Inv-loop μ-loop
 note-definition-requires c κs =
-    let s = c .before .before .before .before .before .before .before .args .s .now in
-    let i = c .before .before .before .before .loop .i in
-    let w : c .before .words-of .result ≡ encode (recordAt s i) = c .before .words-of .ensures ∙ ap encode (c .before .before .record-at .ensures) in
+    let s = c .before .before .before .before .before .before .args .s .now in
+    let i = c .before .before .before .loop .i in
+    let w = c .before .words-at .ensures in
     let same = ap (λ (x : Words). x .second) w in
-    let f = fit-next s i (search needs) (length (functionIn s .values)) (length (functionIn s .blocks)) (c .before .before .before .before .loop .inv .4) in (
+    let f = fit-next s i (search needs) (length (functionIn s .values)) (length (functionIn s .blocks)) (c .before .before .before .loop .inv .4) in (
       λ d.
           let l = defines-fit (length (functionIn s .values)) (length (functionIn s .blocks)) (recordAt s i) (f .0) (subst (λ x. T (defines x)) w d) in
-          omega (arith, c .before .before .before .before .before .before .before .pre .room, c .before .before .before .before .loop .inv .1),
-      omega (arith, c .before .before .before .before .loop .inv .2 (c .before .words-of .result .second), c .before .before .before .before .before .before .before .pre .few, c .before .before .before .loop-test .taken),
+          omega (arith, c .before .before .before .before .before .before .pre .room, c .before .before .before .loop .inv .1),
+      omega (arith, c .before .before .before .loop .inv .2 (c .before .words-at .result .second), c .before .before .before .before .before .before .pre .few, c .before .before .loop-test .taken),
     )
 
 add-i : tie.Need-add-i Inv-loop μ-loop
@@ -61,22 +58,22 @@ loop-less c = search needs
 
 loop-again : tie.Need-loop-again Inv-loop μ-loop
 loop-again c =
-    let s = c .before .before .before .before .before .before .before .before .before .before .args .s .now in
-    let i = c .before .before .before .before .before .before .before .loop .i in
-    let t = c .before .before .before .before .before .before .before .loop .counts in
-    let v = c .before .before .before .before .words-of .result in
-    let w : v ≡ encode (recordAt s i) = c .before .before .before .before .words-of .ensures ∙ ap encode (c .before .before .before .before .before .record-at .ensures) in
+    let s = c .before .before .before .before .before .before .before .before .before .args .s .now in
+    let i = c .before .before .before .before .before .before .loop .i in
+    let t = c .before .before .before .before .before .before .loop .counts in
+    let v = c .before .before .before .before .words-at .result in
+    let w = c .before .before .before .before .words-at .ensures in
     let same = ap (λ (x : Words). x .second) w in
-    let f = fit-next s i (search needs) (length (functionIn s .values)) (length (functionIn s .blocks)) (c .before .before .before .before .before .before .before .loop .inv .4) in
+    let f = fit-next s i (search needs) (length (functionIn s .values)) (length (functionIn s .blocks)) (c .before .before .before .before .before .before .loop .inv .4) in
     let inside : T (defines v) → v .second < length t =
     λ d.
     let l = defines-fit (length (functionIn s .values)) (length (functionIn s .blocks)) (recordAt s i) (f .0) (subst (λ x. T (defines x)) w d) in
-    omega (arith, c .before .before .before .before .before .before .before .before .before .before .pre .room, c .before .before .before .before .before .before .before .loop .inv .1) in
+    omega (arith, c .before .before .before .before .before .before .before .before .before .pre .room, c .before .before .before .before .before .before .loop .inv .1) in
     let e = c .before .before .note-definition .ensures in (
       search needs,
-      ap length e ∙ noted-length t v ∙ c .before .before .before .before .before .before .before .loop .inv .1,
-      λ x. subst (λ u. getD u x 0 ≤ i + 1) (sym e) (noted-small t v i inside (c .before .before .before .before .before .before .before .loop .inv .2) x),
-      ap (λ u. notedAll u (rest s (i + 1))) (e ∙ ap (noted t) w) ∙ sym (noted-next s i (search needs) t) ∙ c .before .before .before .before .before .before .before .loop .inv .3,
+      ap length e ∙ noted-length t v ∙ c .before .before .before .before .before .before .loop .inv .1,
+      λ x. subst (λ u. getD u x 0 ≤ i + 1) (sym e) (noted-small t v i inside (c .before .before .before .before .before .before .loop .inv .2) x),
+      ap (λ u. notedAll u (rest s (i + 1))) (e ∙ ap (noted t) w) ∙ sym (noted-next s i (search needs) t) ∙ c .before .before .before .before .before .before .loop .inv .3,
       f .1,
     )
 
@@ -96,8 +93,7 @@ count-definitions-spec =
     Inv-loop
     μ-loop
     loop-holds
-    record-at-requires
-    words-of-requires
+    words-at-requires
     note-definition-requires
     add-i
     loop-less

@@ -18,14 +18,14 @@ use Rattle.checks.proofs.definitions.not_defined_once.Tie as tie
 count-definitions-requires : tie.Need-count-definitions-requires
 count-definitions-requires c κs = search needs
 
-kind-count-requires : tie.Need-kind-count-requires
-kind-count-requires c κs = search needs
+value-count-requires : tie.Need-value-count-requires
+value-count-requires c κs = c .before .before .before .before .before .before .before .pre .inOrder
 
 each-once-requires : tie.Need-each-once-requires
 each-once-requires c κs =
     let s = c .before .before .before .before .before .before .before .before .args .s .now in
     let long = ap length (c .before .before .before .before .count-definitions .ensures) ∙ notedAll-length (c .before .before .before .before .before .before .before .before .args .counts .now) (records s) in
-    omega (arith, c .kind-count .ensures, values-length (records s), c .before .before .before .before .before .before .before .before .pre .room, long)
+    omega (arith, c .value-count .ensures, values-length (records s), c .before .before .before .before .before .before .before .before .pre .room, long)
 
 same-length : tie.Need-same-length
 same-length c = search needs
@@ -34,7 +34,7 @@ returns : tie.Need-returns
 returns c =
     let s = c .before .before .before .before .before .before .before .before .before .args .s .now in
     let t = c .before .before .before .before .before .before .before .before .before .args .counts .now in
-    let n : c .before .kind-count .result ≡ length (functionIn s .values) = c .before .kind-count .ensures ∙ sym (values-length (records s)) in (
+    let n : c .before .value-count .result ≡ length (functionIn s .values) = c .before .value-count .ensures ∙ sym (values-length (records s)) in (
       ap not (c .each-once .ensures ∙ ap₂ (λ (u : List ℕ) (k : ℕ). all (λ v. eqb (getD u v 0) 1) (upFrom 0 k)) (c .before .before .before .before .before .count-definitions .ensures) n
           ∙ sym (definedOnce-by-table s t (c .before .before .before .before .before .before .before .before .before .pre))),
       c .before .before .before .before .before .count-definitions .ensures,
@@ -45,7 +45,7 @@ not-defined-once-spec =
     tie.close
     (tie.spec
     count-definitions-requires
-    kind-count-requires
+    value-count-requires
     each-once-requires
     same-length
     returns)

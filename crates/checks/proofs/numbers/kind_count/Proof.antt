@@ -3,7 +3,7 @@ use borrow.Author.Needs.{needs}
 use Rattle.checks.proofs.Counting.{ofKind-rest}
 use Rattle.records.specs.Places.{rest, rest-all, restBy-done}
 use Rattle.lists.specs.Counts.{bit-at-most}
-use Rattle.rules.specs.Records.{recordCount, records, recordAt, kind, bit}
+use Rattle.rules.specs.Records.{recordCount, records, recordAt, bit}
 use Rattle.rules.specs.File.{ofKind}
 use lib.Dec.{eqb}
 use lib.ListN.{length}
@@ -22,17 +22,14 @@ abbrev μ-loop : tie.MeasureT-loop
 loop-holds : tie.Need-loop-holds Inv-loop μ-loop
 loop-holds c = let e = ap (λ rs. length (ofKind (c .before .args .k) rs)) (rest-all (c .before .args .s .now)) in (search needs, search needs, omega arith)
 
-record-at-requires : tie.Need-record-at-requires Inv-loop μ-loop
-record-at-requires c κs = search needs
-
-kind-of-requires : tie.Need-kind-of-requires Inv-loop μ-loop
-kind-of-requires c κs = search needs
+kind-at-requires : tie.Need-kind-at-requires Inv-loop μ-loop
+kind-at-requires c κs = search needs
 
 one-if-same-requires : tie.Need-one-if-same-requires Inv-loop μ-loop
 one-if-same-requires c κs = search needs
 
 add-found : tie.Need-add-found Inv-loop μ-loop
-add-found c = omega (arith, c .one-if-same .ensures, bit-at-most (eqb (c .before .kind-of .result) (c .before .before .before .before .before .before .args .k)))
+add-found c = omega (arith, c .one-if-same .ensures, bit-at-most (eqb (c .before .kind-at .result) (c .before .before .before .before .before .args .k)))
 
 add-i : tie.Need-add-i Inv-loop μ-loop
 add-i c = search needs
@@ -42,10 +39,10 @@ loop-less c = search needs
 
 loop-again : tie.Need-loop-again Inv-loop μ-loop
 loop-again c =
-    let s = c .before .before .before .before .before .before .args .s .now in
-    let e = ofKind-rest s (c .before .before .before .before .before .before .args .k) (c .before .before .before .before .loop .i) (search needs) in
-    let w = c .one-if-same .ensures ∙ ap (λ x. bit (eqb x (c .before .before .before .before .before .before .args .k))) (c .before .kind-of .ensures .0 ∙ ap kind (c .before .before .record-at .ensures)) in
-    (search needs, omega (arith, c .one-if-same .ensures, bit-at-most (eqb (c .before .kind-of .result) (c .before .before .before .before .before .before .args .k))), omega arith)
+    let s = c .before .before .before .before .before .args .s .now in
+    let e = ofKind-rest s (c .before .before .before .before .before .args .k) (c .before .before .before .loop .i) (search needs) in
+    let w = c .one-if-same .ensures ∙ ap (λ x. bit (eqb x (c .before .before .before .before .before .args .k))) (c .before .kind-at .ensures .0) in
+    (search needs, omega (arith, c .one-if-same .ensures, bit-at-most (eqb (c .before .kind-at .result) (c .before .before .before .before .before .args .k))), omega arith)
 
 returns : tie.Need-returns Inv-loop μ-loop
 returns c =
@@ -61,8 +58,7 @@ kind-count-spec =
     Inv-loop
     μ-loop
     loop-holds
-    record-at-requires
-    kind-of-requires
+    kind-at-requires
     one-if-same-requires
     add-found
     add-i

@@ -5,6 +5,7 @@ use Rattle.records.specs.Places.{rest-all, restBy-done, rest}
 use Rattle.lists.specs.Counts.{bit-at-most}
 use Rattle.rules.specs.Refusals.{numberedFrom}
 use Rattle.rules.specs.Records.{recordCount, recordAt, kind, encode, bit}
+use Rattle.rules.specs.declared.Words.{Words}
 use Rattle.rules.specs.File.{function}
 use borrow.Author.Tests.{not-true, not-false}
 use lib.Dec.{eqb}
@@ -24,8 +25,8 @@ abbrev μ-loop : tie.MeasureT-loop
 loop-holds : tie.Need-loop-holds Inv-loop μ-loop
 loop-holds c = (search needs, search needs, refl)
 
-record-at-requires : tie.Need-record-at-requires Inv-loop μ-loop
-record-at-requires c κs = search needs
+words-at-requires : tie.Need-words-at-requires Inv-loop μ-loop
+words-at-requires c κs = search needs
 
 numbered-as-requires : tie.Need-numbered-as-requires Inv-loop μ-loop
 numbered-as-requires c κs = search needs
@@ -36,18 +37,15 @@ returns c =
     let i = c .before .before .before .before .loop .i in
     let n = c .before .before .before .before .loop .number in
     let no : numberedBy (encode (recordAt s i)) n ≡ false =
-    ap (λ r. numberedBy (encode r) n) (sym (c .before .before .record-at .ensures)) ∙ sym (c .before .numbered-as .ensures) ∙ not-true (c .before .numbered-as .result) (c .if1 .taken) in
+    ap (λ w. numberedBy w n) (sym (c .before .before .words-at .ensures)) ∙ sym (c .before .numbered-as .ensures) ∙ not-true (c .before .numbered-as .result) (c .if1 .taken) in
     sym (ap (λ b. b && numberedRest (n + bit (eqb 2 (kind (recordAt s i)))) s (i + 1)) no) ∙ sym (numbered-next s n i (search needs)) ∙ c .before .before .before .before .loop .inv .2
     ∙ ap (λ rs. numberedFrom 0 (function rs .blocks)) (rest-all s)
-
-kind-of-requires : tie.Need-kind-of-requires Inv-loop μ-loop
-kind-of-requires c κs = search needs
 
 one-if-same-requires : tie.Need-one-if-same-requires Inv-loop μ-loop
 one-if-same-requires c κs = search needs
 
 add-number : tie.Need-add-number Inv-loop μ-loop
-add-number c = omega (arith, c .one-if-same .ensures, bit-at-most (eqb 2 (c .before .kind-of .result)))
+add-number c = omega (arith, c .one-if-same .ensures, bit-at-most (eqb 2 (c .before .before .before .words-at .result .kind)))
 
 add-i : tie.Need-add-i Inv-loop μ-loop
 add-i c = search needs
@@ -57,17 +55,17 @@ loop-less c = search needs
 
 loop-again : tie.Need-loop-again Inv-loop μ-loop
 loop-again c =
-    let s = c .before .before .before .before .before .before .before .before .args .s .now in
-    let i = c .before .before .before .before .before .before .loop .i in
-    let n = c .before .before .before .before .before .before .loop .number in
+    let s = c .before .before .before .before .before .before .before .args .s .now in
+    let i = c .before .before .before .before .before .loop .i in
+    let n = c .before .before .before .before .before .loop .number in
     let yes : numberedBy (encode (recordAt s i)) n ≡ true =
-    ap (λ r. numberedBy (encode r) n) (sym (c .before .before .before .before .record-at .ensures)) ∙ sym (c .before .before .before .numbered-as .ensures) ∙ not-false (c .before .before .before .numbered-as .result) (c .before .before .if1 .left) in
+    ap (λ w. numberedBy w n) (sym (c .before .before .before .words-at .ensures)) ∙ sym (c .before .before .numbered-as .ensures) ∙ not-false (c .before .before .numbered-as .result) (c .before .if1 .left) in
     let more : c .one-if-same .result ≡ bit (eqb 2 (kind (recordAt s i))) =
-    c .one-if-same .ensures ∙ ap (λ k. bit (eqb 2 k)) (c .before .kind-of .ensures .0 ∙ ap kind (c .before .before .before .before .record-at .ensures)) in (
+    c .one-if-same .ensures ∙ ap (λ (w : Words). bit (eqb 2 (w .kind))) (c .before .before .before .words-at .ensures) in (
       search needs,
-      omega (arith, c .one-if-same .ensures, bit-at-most (eqb 2 (c .before .kind-of .result))),
+      omega (arith, c .one-if-same .ensures, bit-at-most (eqb 2 (c .before .before .before .words-at .result .kind))),
       ap (λ m. numberedRest (n + m) s (i + 1)) more ∙ sym (ap (λ b. b && numberedRest (n + bit (eqb 2 (kind (recordAt s i)))) s (i + 1)) yes)
-          ∙ sym (numbered-next s n i (search needs)) ∙ c .before .before .before .before .before .before .loop .inv .2,
+          ∙ sym (numbered-next s n i (search needs)) ∙ c .before .before .before .before .before .loop .inv .2,
     )
 
 returns-2 : tie.Need-returns-2 Inv-loop μ-loop
@@ -85,10 +83,9 @@ blocks-numbered-spec =
     Inv-loop
     μ-loop
     loop-holds
-    record-at-requires
+    words-at-requires
     numbered-as-requires
     returns
-    kind-of-requires
     one-if-same-requires
     add-number
     add-i

@@ -12,7 +12,7 @@ in-order-requires : tie.Need-in-order-requires
 in-order-requires c κs = search needs
 
 blocks-numbered-requires : tie.Need-blocks-numbered-requires
-blocks-numbered-requires c κs = search needs
+blocks-numbered-requires c κs = sym (c .before .in-order .ensures) ∙ c .if1 .taken
 
 returns : tie.Need-returns
 returns c =
