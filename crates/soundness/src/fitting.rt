@@ -12,10 +12,10 @@ ghost use Rattle.records.specs.Parts.{argument};
 ghost use Rattle.graph.specs.Tables.{Given};
 ghost use Rattle.soundness.specs.Fitting.{argumentsFirst, parametersFirst, argumentFits, edgeFits, fitting};
 use graph::places::places_of;
-use records::record_at;
+use records::in_order::kind_at;
+use records::in_order::words_at;
+use records::in_order::words_from;
 use records::values::size_of;
-use records::values::words_from;
-use records::words_of;
 use rules::LARGEST_BLOCKS;
 use rules::RECORD_BYTES;
 use rules::Words;
@@ -63,10 +63,10 @@ fn edge_fits(s: &[u8], places: &[usize], i: usize) -> bool
     requires { ⌜ Given (now s) (now places) × (i < recordCount (now s)) ⌝ }
     ensures { λ r. ⌜ r ≡ edgeFits (functionIn (now (s .entry))) (recordAt (now (s .entry)) i) (rest (now (s .entry)) (i + 1)) ⌝ }
 {
-    let w = words_of(record_at(s, i));
-    if w.kind != 7 {
+    if kind_at(s, i) != 7 {
         return true;
     }
+    let w = words_at(s, i);
     let target = w.second as usize;
     arguments_fit(s, i + 1, places[target] + 1)
 }

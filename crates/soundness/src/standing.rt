@@ -1,9 +1,10 @@
 // Refusal 7, but for whether edges fit: blocks that end once, and what an instruction has by its flags.
 ghost use mathlib.Core.Path.{_≡_};
+ghost use mathlib.Core.Bool.{true};
 ghost use Rattle.rules.specs.Records.{records};
+ghost use Rattle.rules.specs.File.{ordered};
 ghost use Rattle.soundness.specs.Standing.{safepointFlags, mayStand, flagsBehind, standing};
-use records::record_at;
-use records::words_of;
+use records::in_order::words_at;
 use rules::RECORD_BYTES;
 use rules::Words;
 
@@ -50,15 +51,16 @@ fn flags_behind(flags: u32, w: Words) -> u32
     }
 }
 
-// Whether every record may stand where it does, and a terminator ends the file.
+// Whether every record of a file in order may stand where it does, and a terminator ends the file.
 pub fn all_stand(s: &[u8]) -> bool
+    requires { ⌜ ordered 0 (records (now s)) ≡ true ⌝ }
     ensures { λ r. ⌜ r ≡ standing 2 (records (now (s .entry))) ⌝ }
 {
     let n = s.len() / RECORD_BYTES;
     let mut flags: u32 = 2;
     let mut i: usize = 0;
     while i < n {
-        let w = words_of(record_at(s, i));
+        let w = words_at(s, i);
         if !may_stand(flags, w) {
             return false;
         }

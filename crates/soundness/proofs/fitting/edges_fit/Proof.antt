@@ -15,7 +15,7 @@ slice-aggregate-places-of c = search needs
 
 places-of-requires : tie.Need-places-of-requires
 places-of-requires c κs =
-    (omega (arith, c .before .before .pre .2, length-blockPlaces (c .before .before .args .s .now)), zeros-zeros (suc largestBlocks))
+    (omega (arith, c .before .before .pre .2, length-blockPlaces (c .before .before .args .s .now)), zeros-zeros (suc largestBlocks), c .before .before .pre .0)
 
 slice-aggregate-each-edge-fits : tie.Need-slice-aggregate-each-edge-fits
 slice-aggregate-each-edge-fits c = search needs

@@ -21,25 +21,22 @@ abbrev μ-loop : tie.MeasureT-loop
 loop-holds : tie.Need-loop-holds Inv-loop μ-loop
 loop-holds c = (search needs, ap (standing 2) (rest-all (c .before .args .s .now)))
 
-record-at-requires : tie.Need-record-at-requires Inv-loop μ-loop
-record-at-requires c κs = search needs
-
-words-of-requires : tie.Need-words-of-requires Inv-loop μ-loop
-words-of-requires c κs = search needs
+words-at-requires : tie.Need-words-at-requires Inv-loop μ-loop
+words-at-requires c κs = search needs
 
 may-stand-requires : tie.Need-may-stand-requires Inv-loop μ-loop
 may-stand-requires c κs = search needs
 
 returns : tie.Need-returns Inv-loop μ-loop
 returns c =
-    let s = c .before .before .before .before .before .before .before .args .s .now in
-    let i = c .before .before .before .before .before .loop .i in
-    let f = c .before .before .before .before .before .loop .flags in
+    let s = c .before .before .before .before .before .before .args .s .now in
+    let i = c .before .before .before .before .loop .i in
+    let f = c .before .before .before .before .loop .flags in
     let may = c .before .may-stand in
     let w = encode (recordAt s i) in
-    let read : c .before .before .words-of .result ≡ w = c .before .before .words-of .ensures ∙ ap encode (c .before .before .before .record-at .ensures) in
+    let read = c .before .before .words-at .ensures in
     let no : mayStand f w ≡ false = ap (mayStand f) (sym read) ∙ sym (may .ensures) ∙ not-true (may .result) (c .if1 .taken) in
-    sym (ap (λ b. b && standing (flagsBehind f w) (rest s (i + 1))) no) ∙ sym (standing-next s f i (search needs)) ∙ c .before .before .before .before .before .loop .inv .1
+    sym (ap (λ b. b && standing (flagsBehind f w) (rest s (i + 1))) no) ∙ sym (standing-next s f i (search needs)) ∙ c .before .before .before .before .loop .inv .1
 
 flags-behind-requires : tie.Need-flags-behind-requires Inv-loop μ-loop
 flags-behind-requires c κs = search needs
@@ -52,17 +49,17 @@ loop-less c = search needs
 
 loop-again : tie.Need-loop-again Inv-loop μ-loop
 loop-again c =
-    let s = c .before .before .before .before .before .before .before .before .args .s .now in
-    let i = c .before .before .before .before .before .before .loop .i in
-    let f = c .before .before .before .before .before .before .loop .flags in
+    let s = c .before .before .before .before .before .before .before .args .s .now in
+    let i = c .before .before .before .before .before .loop .i in
+    let f = c .before .before .before .before .before .loop .flags in
     let may = c .before .before .may-stand in
     let w = encode (recordAt s i) in
-    let read : c .before .before .before .words-of .result ≡ w = c .before .before .before .words-of .ensures ∙ ap encode (c .before .before .before .before .record-at .ensures) in
+    let read = c .before .before .before .words-at .ensures in
     let yes : mayStand f w ≡ true = ap (mayStand f) (sym read) ∙ sym (may .ensures) ∙ not-false (may .result) (c .before .if1 .left) in
     let next : c .flags-behind .result ≡ flagsBehind f w = c .flags-behind .ensures ∙ ap (flagsBehind f) read in (
       search needs,
       ap (λ x. standing x (rest s (i + 1))) next ∙ sym (ap (λ b. b && standing (flagsBehind f w) (rest s (i + 1))) yes)
-          ∙ sym (standing-next s f i (search needs)) ∙ c .before .before .before .before .before .before .loop .inv .1,
+          ∙ sym (standing-next s f i (search needs)) ∙ c .before .before .before .before .before .loop .inv .1,
     )
 
 returns-2 : tie.Need-returns-2 Inv-loop μ-loop
@@ -78,8 +75,7 @@ all-stand-spec =
     Inv-loop
     μ-loop
     loop-holds
-    record-at-requires
-    words-of-requires
+    words-at-requires
     may-stand-requires
     returns
     flags-behind-requires
