@@ -5,7 +5,7 @@ ghost use Prim.Native.Nat.{_<_, _≤_};
 ghost use lib.ListN.{length};
 ghost use lib.Dec.{eqb};
 ghost use Rattle.rules.specs.Lists.{any};
-ghost use Rattle.rules.specs.Records.{records, recordCount};
+ghost use Rattle.rules.specs.Records.{encode, kind, recordAt, recordCount, records};
 ghost use Rattle.rules.specs.File.{named, ordered, functionIn};
 ghost use Rattle.rules.specs.Graph.{isMarked};
 ghost use Rattle.rules.specs.Refusals.{markedContext};
@@ -13,17 +13,17 @@ ghost use Rattle.graph.specs.Between.{between};
 ghost use Rattle.graph.specs.Links.{Walked};
 ghost use Rattle.graph.specs.Tables.{Given};
 ghost use Rattle.acceptance.specs.Marked.{blockMarked};
-use records::record_at;
+use records::in_order::kind_at;
+use records::in_order::words_at;
 use records::values::is_marked;
-use records::words_of;
-use rules::Words;
 
-// Whether four words are a context that is marked.
-fn is_marked_context(s: &[u8], w: Words) -> bool
-    requires { ⌜ ordered 0 (records (now s)) ≡ true ⌝ }
-    ensures { λ r. ⌜ r ≡ (eqb (w .kind) 9 && isMarked (functionIn (now (s .entry))) (w .second)) ⌝ }
+// Whether the record at place i is a context that is marked.
+fn is_marked_context(s: &[u8], i: usize) -> bool
+    requires { ⌜ (i < recordCount (now s)) × (ordered 0 (records (now s)) ≡ true) ⌝ }
+    ensures { λ r. ⌜ r ≡ (eqb (kind (recordAt (now (s .entry)) i)) 9 && isMarked (functionIn (now (s .entry))) (encode (recordAt (now (s .entry)) i) .second)) ⌝ }
 {
-    if w.kind == 9 {
+    if kind_at(s, i) == 9 {
+        let w = words_at(s, i);
         return is_marked(s, w.second);
     }
     false
@@ -36,7 +36,7 @@ fn marked_between(s: &[u8], start: usize, end: usize) -> bool
 {
     let mut i = start;
     while i < end {
-        if is_marked_context(s, words_of(record_at(s, i))) {
+        if is_marked_context(s, i) {
             return true;
         }
         i += 1;

@@ -18,22 +18,16 @@ abbrev μ-loop : tie.MeasureT-loop
 loop-holds : tie.Need-loop-holds Inv-loop μ-loop
 loop-holds c = (omega arith, search needs, refl)
 
-record-at-requires : tie.Need-record-at-requires Inv-loop μ-loop
-record-at-requires c κs = search needs
-
-words-of-requires : tie.Need-words-of-requires Inv-loop μ-loop
-words-of-requires c κs = search needs
-
 is-marked-context-requires : tie.Need-is-marked-context-requires Inv-loop μ-loop
 is-marked-context-requires c κs = search needs
 
 returns : tie.Need-returns Inv-loop μ-loop
 returns c =
-    let s = c .before .before .before .before .before .before .before .args .s .now in
-    let i = c .before .before .before .before .before .loop .i in
+    let s = c .before .before .before .before .before .args .s .now in
+    let i = c .before .before .before .loop .i in
     let here : isMarkedContext s (encode (recordAt s i)) ≡ true =
-    sym (c .before .is-marked-context .ensures ∙ ap (isMarkedContext s) (c .before .before .words-of .ensures ∙ ap encode (c .before .before .before .record-at .ensures))) ∙ c .if1 .taken in
-    sym (ap (λ b. b || markedBetween s (i + 1) (c .before .before .before .before .before .before .before .args .end)) here) ∙ sym (marked-more s i (c .before .before .before .before .before .before .before .args .end) (c .before .before .before .before .loop-test .taken) (c .before .before .before .before .before .before .before .pre .2)) ∙ c .before .before .before .before .before .loop .inv .2
+    sym (c .before .is-marked-context .ensures) ∙ c .if1 .taken in
+    sym (ap (λ b. b || markedBetween s (i + 1) (c .before .before .before .before .before .args .end)) here) ∙ sym (marked-more s i (c .before .before .before .before .before .args .end) (c .before .before .loop-test .taken) (c .before .before .before .before .before .pre .2)) ∙ c .before .before .before .loop .inv .2
 
 add-i : tie.Need-add-i Inv-loop μ-loop
 add-i c = search needs
@@ -43,11 +37,11 @@ loop-less c = search needs
 
 loop-again : tie.Need-loop-again Inv-loop μ-loop
 loop-again c =
-    let s = c .before .before .before .before .before .before .before .args .s .now in
-    let i = c .before .before .before .before .before .loop .i in
+    let s = c .before .before .before .before .before .args .s .now in
+    let i = c .before .before .before .loop .i in
     let here : isMarkedContext s (encode (recordAt s i)) ≡ false =
-    sym (c .before .is-marked-context .ensures ∙ ap (isMarkedContext s) (c .before .before .words-of .ensures ∙ ap encode (c .before .before .before .record-at .ensures))) ∙ c .if1 .left in
-    (omega arith, omega arith, sym (ap (λ b. b || markedBetween s (i + 1) (c .before .before .before .before .before .before .before .args .end)) here) ∙ sym (marked-more s i (c .before .before .before .before .before .before .before .args .end) (c .before .before .before .before .loop-test .taken) (c .before .before .before .before .before .before .before .pre .2)) ∙ c .before .before .before .before .before .loop .inv .2)
+    sym (c .before .is-marked-context .ensures) ∙ c .if1 .left in
+    (omega arith, omega arith, sym (ap (λ b. b || markedBetween s (i + 1) (c .before .before .before .before .before .args .end)) here) ∙ sym (marked-more s i (c .before .before .before .before .before .args .end) (c .before .before .loop-test .taken) (c .before .before .before .before .before .pre .2)) ∙ c .before .before .before .loop .inv .2)
 
 returns-2 : tie.Need-returns-2 Inv-loop μ-loop
 returns-2 c = sym (marked-none (c .before .before .before .args .s .now) (c .before .loop .i) (c .before .before .before .args .end) (omega arith)) ∙ c .before .loop .inv .2
@@ -59,8 +53,6 @@ marked-between-spec =
     Inv-loop
     μ-loop
     loop-holds
-    record-at-requires
-    words-of-requires
     is-marked-context-requires
     returns
     add-i

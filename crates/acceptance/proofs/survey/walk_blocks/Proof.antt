@@ -1,4 +1,5 @@
 -- `acceptance::survey::walk_blocks` meets its contract.
+use Rattle.lists.specs.Tests.{is-true}
 use Rattle.graph.specs.Room.{table-room, walk-lent}
 use Rattle.graph.specs.Zeros.{padded-own}
 use Rattle.graph.specs.Blocks.{blockTable, length-blockPlaces}
@@ -8,7 +9,7 @@ use Rattle.acceptance.proofs.survey.walk_blocks.Statement.{statement}
 use Rattle.acceptance.proofs.survey.walk_blocks.Tie as tie
 
 places-of-requires : tie.Need-places-of-requires
-places-of-requires c κs = let r = c .before .before .before .before .before .before .before .pre .0 in (table-room (c .before .before .before .before .before .before .before .args .s .now) (r .few) (r .inOrder) (r .inFile) _ (c .before .before .before .before .before .before .before .pre .1 .0), c .before .before .before .before .before .before .before .pre .1 .1)
+places-of-requires c κs = let r = c .before .before .before .before .before .before .before .pre .0 in (table-room (c .before .before .before .before .before .before .before .args .s .now) (r .few) (r .inOrder) (r .inFile) _ (c .before .before .before .before .before .before .before .pre .1 .0), c .before .before .before .before .before .before .before .pre .1 .1, is-true _ (r .inOrder))
 
 post-order-requires : tie.Need-post-order-requires
 post-order-requires c κs = let r = c .before .before .before .before .before .before .before .before .before .before .before .before .before .before .before .pre .0 in walk-lent (c .before .before .before .before .before .before .before .before .before .before .before .before .before .before .before .args .s .now) (r .few) (r .inOrder) (r .inFile) _ _ _ _ _ (padded-own _ (blockTable (c .before .before .before .before .before .before .before .before .before .before .before .before .before .before .before .args .s .now)) _ (c .before .before .before .before .before .before .before .places-of .ensures .1) (search needs)) (c .before .before .before .before .before .before .before .before .before .before .before .before .before .before .before .pre .2) (c .before .before .before .before .before .before .before .before .before .before .before .before .before .before .before .pre .3) (c .before .before .before .before .before .before .before .before .before .before .before .before .before .before .before .pre .4) (c .before .before .before .before .before .before .before .before .before .before .before .before .before .before .before .pre .5)
