@@ -1,11 +1,12 @@
 // Liveness of a whole file: document 01's process over lent tables, with its visits and pushes. Rows are by block number,
 // and a block stands for its index.
 ghost use mathlib.Core.Path.{_≡_};
+ghost use mathlib.Core.Bool.{true};
 ghost use Prim.Native.Nat.{ℕ, _≤_, _<_};
 ghost use lib.ListN.{length, getD, take};
 ghost use Rattle.rules.specs.Lists.{empty};
-ghost use Rattle.rules.specs.Records.{recordCount};
-ghost use Rattle.rules.specs.File.{named, functionIn};
+ghost use Rattle.rules.specs.Records.{recordCount, records};
+ghost use Rattle.rules.specs.File.{named, ordered, functionIn};
 ghost use Rattle.rules.specs.Liveness.{process};
 ghost use Rattle.lists.specs.Members.{_∈_};
 ghost use Rattle.fixpoint.specs.MoveToTop.{Compact, stepTop};
@@ -37,7 +38,7 @@ pub struct LivenessCounts {
 
 // A block's row of live-out gets the live-in of each target of the edges between two places.
 fn join_successors(s: &[u8], start: usize, end: usize, outs: &mut [u64], b: usize, ins: &[u64])
-    requires { ⌜ (start ≤ end) × (end ≤ recordCount (now s)) × HasRow (now outs) b × ((t : ℕ) → t ∈ named 7 (between (now s) start end) → HasRow (now ins) t) ⌝ }
+    requires { ⌜ (start ≤ end) × (end ≤ recordCount (now s)) × HasRow (now outs) b × ((t : ℕ) → t ∈ named 7 (between (now s) start end) → HasRow (now ins) t) × (ordered 0 (records (now s)) ≡ true) ⌝ }
     ensures { λ _. ⌜ rows (now (outs .exit)) ≡ joinedInto b (rows (now (ins .entry))) (named 7 (between (now (s .entry)) start end)) (rows (now (outs .entry))) ⌝ }
 {
     let mut edge = next_edge(s, start, end);

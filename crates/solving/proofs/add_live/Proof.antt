@@ -1,5 +1,6 @@
 -- `solving::add_live` meets its contract.
 use native.Mathlib.Omega.{arith}
+use Rattle.lists.specs.Tests.{is-true}
 use Rattle.graph.specs.ByTable.{places-long, start-less, end-le}
 use Rattle.solving.proofs.Adding.{target-in-file, added}
 use borrow.Author.Needs.{needs}
@@ -44,6 +45,7 @@ join-successors-requires c κs =
       λ t m.
           let inside = target-in-file (start .args .s .now) (start .args .places .now) (start .pre .0) (start .args .b) (start .pre .3) t m in
           omega (arith, start .pre .1, start .pre .2),
+      is-true _ (start .pre .0 .inOrder),
     )
 
 transfer-requires : tie.Need-transfer-requires

@@ -21,7 +21,7 @@ abbrev μ-loop : tie.MeasureT-loop
 μ-loop s start end outs₀ b ins edge₀ outs edge = length (targetsFrom s end (edge .tag) (edge .behind))
 
 next-edge-requires : tie.Need-next-edge-requires Inv-loop μ-loop
-next-edge-requires c κs = let start = c .before .before .before in (start .pre .0, start .pre .1)
+next-edge-requires c κs = search needs
 
 loop-holds : tie.Need-loop-holds Inv-loop μ-loop
 loop-holds c =
@@ -45,7 +45,7 @@ join-requires c κs =
 next-edge-requires-2 : tie.Need-next-edge-requires-2 Inv-loop μ-loop
 next-edge-requires-2 c κs =
     let start = c .before .before .before .before .before .before .before .before .before .before .before .before in
-    (joining-inside (start .args .s .now) _ (start .args .b) _ (start .pre .1) _ _ _ (c .before .before .before .before .before .before .before .loop .inv .1) (omega arith), start .pre .1)
+    (joining-inside (start .args .s .now) _ (start .args .b) _ (start .pre .1) _ _ _ (c .before .before .before .before .before .before .before .loop .inv .1) (omega arith), start .pre .1, start .pre .4)
 
 loop-less : tie.Need-loop-less Inv-loop μ-loop
 loop-less c =
