@@ -1,5 +1,5 @@
 -- Counting first words, and records of a kind, from a place on: one record more.
-use Prim.Native.Nat.{ℕ, _+_, _*_, _<_}
+use Prim.Native.Nat.{ℕ, _+_, _*_, _<_, _≤_}
 use mathlib.Core.Path.{_≡_, sym, ap, subst, _∙_}
 use lib.Dec.{T, eqb}
 use mathlib.Core.List.{List, [], _∷_}
@@ -9,12 +9,12 @@ use lib.ListN.{length}
 use borrow.Author.Tests.{ne-eqb}
 use Rattle.rules.specs.Limits.{recordBytes}
 use Rattle.rules.specs.Lists.{count}
-use Rattle.rules.specs.Records.{wordAt, encode, kind, recordAt, recordCount, records, bit}
+use Rattle.rules.specs.Records.{wordAt, encode, kind, recordAt, recordCount, records, firstWords, bit}
 use Rattle.rules.specs.File.{ofKind, ordered, followers}
 use Rattle.rules.specs.declared.Record.{Record}
 use Rattle.rules.specs.declared.Words.{Words}
-use Rattle.lists.specs.Counts.{count-more}
-use Rattle.records.specs.Places.{firstWordsRest, firstWords-next, rest, rest-next, rest-all, restBy-done}
+use Rattle.lists.specs.Counts.{count-more, bit-at-most}
+use Rattle.records.specs.Places.{firstWordsRest, firstWords-next, firstWords-all, rest, rest-next, rest-all, restBy-done}
 use Rattle.records.specs.Kinds.{Kinds}
 use Rattle.records.specs.InOrder.{ordered-chain, keptBy}
 use Rattle.records.specs.Leading.{leading, leadsBy, leading-all}
@@ -24,6 +24,26 @@ pub count-rest :
     → count (eqb k) (firstWordsRest s i) ≡ bit (eqb k (wordAt s (recordBytes * i))) + count (eqb k) (firstWordsRest s (i + 1))
 count-rest s k i h =
     ap (count (eqb k)) (firstWords-next s i h) ∙ count-more (eqb k) (wordAt s (recordBytes * i)) (firstWordsRest s (i + 1))
+
+-- first words of kind k, counted before place i
+abbrev pub Counted : List ℕ → ℕ → ℕ → ℕ → Type 0
+Counted s k found i = (found ≤ i) × (found + count (eqb k) (firstWordsRest s i) ≡ count (eqb k) (firstWords s))
+
+pub counted-none : (s : List ℕ) (k : ℕ) → Counted s k 0 0
+counted-none s k = let e = ap (count (eqb k)) (firstWords-all s) in (omega arith, omega arith)
+
+pub counted-more :
+    (s : List ℕ) (k found i : ℕ) → i < recordCount s → Counted s k found i → (w b : ℕ) → w ≡ wordAt s (recordBytes * i) → b ≡ bit (eqb k w)
+    → Counted s k (found + b) (i + 1)
+counted-more s k found i l h w b is same =
+    let e = count-rest s k i l in
+    let f = ap (λ x. bit (eqb k x)) is in
+    let m = bit-at-most (eqb k w) in
+    (omega arith, omega arith)
+
+pub counted-all : (s : List ℕ) (k found i : ℕ) → i ≡ recordCount s → Counted s k found i → found ≡ count (eqb k) (firstWords s)
+counted-all s k found i n h =
+    let e = ap (count (eqb k)) (ap (firstWordsRest s) n ∙ restBy-done (λ t. wordAt t 0) s) in omega arith
 
 ofKind-length :
     (k : ℕ) (r : Record) (rs : List Record) → length (ofKind k (r ∷ rs)) ≡ bit (eqb (kind r) k) + length (ofKind k rs)

@@ -21,18 +21,38 @@ pub fn one_if_same(a: u32, b: u32) -> usize
     0
 }
 
-// How many records of a file have k for their first word.
-pub fn count_of(s: &[u8], k: u32) -> usize
-    ensures { λ r. ⌜ r ≡ count (eqb k) (firstWords (now (s .entry))) ⌝ }
+// How many values, blocks, instructions and edges a file has, by the first words of its records alone.
+pub struct KindCounts {
+    pub values: usize,
+    pub blocks: usize,
+    pub instructions: usize,
+    pub edges: usize,
+}
+
+// All four in one pass.
+pub fn count_kinds(s: &[u8]) -> KindCounts
+    ensures { λ r. ⌜ (r .values ≡ count (eqb 1) (firstWords (now (s .entry)))) × (r .blocks ≡ count (eqb 2) (firstWords (now (s .entry)))) × (r .instructions ≡ count (eqb 4) (firstWords (now (s .entry)))) × (r .edges ≡ count (eqb 7) (firstWords (now (s .entry)))) ⌝ }
 {
     let n = s.len() / RECORD_BYTES;
-    let mut found: usize = 0;
+    let mut values: usize = 0;
+    let mut blocks: usize = 0;
+    let mut instructions: usize = 0;
+    let mut edges: usize = 0;
     let mut i: usize = 0;
     while i < n {
-        found += one_if_same(k, word_at(s, RECORD_BYTES * i));
+        let k = word_at(s, RECORD_BYTES * i);
+        values += one_if_same(1, k);
+        blocks += one_if_same(2, k);
+        instructions += one_if_same(4, k);
+        edges += one_if_same(7, k);
         i += 1;
     }
-    found
+    KindCounts {
+        values,
+        blocks,
+        instructions,
+        edges,
+    }
 }
 
 // Whether a file has more records than the largest count, of all or of a kind.
@@ -42,14 +62,15 @@ pub fn too_many(s: &[u8]) -> bool
     if LARGEST_RECORDS < s.len() / RECORD_BYTES {
         return true;
     }
-    if LARGEST_VALUES < count_of(s, 1) {
+    let of = count_kinds(s);
+    if LARGEST_VALUES < of.values {
         return true;
     }
-    if LARGEST_BLOCKS < count_of(s, 2) {
+    if LARGEST_BLOCKS < of.blocks {
         return true;
     }
-    if LARGEST_INSTRUCTIONS < count_of(s, 4) {
+    if LARGEST_INSTRUCTIONS < of.instructions {
         return true;
     }
-    LARGEST_EDGES < count_of(s, 7)
+    LARGEST_EDGES < of.edges
 }
