@@ -30,7 +30,8 @@ pub fn next_edge(s: &[u8], from: usize, end: usize) -> NextEdge
         if kind_at(s, i) == 7 {
             let w = words_at(s, i);
             let tag = wide(w.second) + 1;
-            return NextEdge { tag, behind: i + 1 };
+            let behind = i + 1;
+            return NextEdge { tag, behind };
         }
         i += 1;
     }

@@ -31,8 +31,8 @@ wide-requires c κs = search needs
 add-tag : tie.Need-add-tag Inv-loop μ-loop
 add-tag c = search needs
 
-add-t9 : tie.Need-add-t9 Inv-loop μ-loop
-add-t9 c = search needs
+add-behind : tie.Need-add-behind Inv-loop μ-loop
+add-behind c = search needs
 
 returns : tie.Need-returns Inv-loop μ-loop
 returns c =
@@ -65,7 +65,7 @@ next-edge-spec =
     words-at-requires
     wide-requires
     add-tag
-    add-t9
+    add-behind
     returns
     add-i
     loop-less
