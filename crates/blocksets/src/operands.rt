@@ -12,7 +12,7 @@ ghost use Rattle.rows.specs.Rows.{rows, HasRow};
 ghost use Rattle.graph.specs.Between.{between};
 ghost use Rattle.blocksets.specs.Operands.{passedOperand, operandOf, liveBefore, withDefined, inRow, back, definedIn};
 ghost use Rattle.blocksets.specs.InRows.{InRows};
-use records::record_at;
+use records::in_order::decoded_at;
 use records::values::is_marked;
 use rows::insert;
 use rows::remove;
@@ -86,7 +86,7 @@ pub fn go_back(s: &[u8], start: usize, end: usize, t: &mut [u64], row: usize)
     let mut i = end;
     while i > start {
         i -= 1;
-        go_before(s, operand_of(record_at(s, i)), t, row);
+        go_before(s, operand_of(decoded_at(s, i)), t, row);
     }
 }
 
@@ -110,6 +110,6 @@ pub fn collect_defined(s: &[u8], start: usize, end: usize, t: &mut [u64], row: u
     let mut i = end;
     while i > start {
         i -= 1;
-        insert_defined(operand_of(record_at(s, i)), t, row);
+        insert_defined(operand_of(decoded_at(s, i)), t, row);
     }
 }
