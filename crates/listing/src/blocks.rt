@@ -1,10 +1,11 @@
 // The lists of all safepoints as rows, by instruction number: the instructions of each reachable block, the last one first.
 ghost use mathlib.Core.Path.{_≡_};
+ghost use mathlib.Core.Bool.{true};
 ghost use Prim.Native.Nat.{_+_, _-_, _*_, _<_, _≤_};
 ghost use lib.ListN.{length};
 ghost use Rattle.rules.specs.Limits.{rowWords};
-ghost use Rattle.rules.specs.Records.{recordCount};
-ghost use Rattle.rules.specs.File.{functionIn};
+ghost use Rattle.rules.specs.Records.{recordCount, records};
+ghost use Rattle.rules.specs.File.{functionIn, ordered};
 ghost use Rattle.rows.specs.Rows.{rows, HasRow};
 ghost use Rattle.blocksets.specs.InRows.{InRows};
 ghost use Rattle.rules.specs.Liveness.{lists as listsOf, isSpilled};
@@ -15,8 +16,7 @@ ghost use Rattle.listing.specs.Listed.{together};
 ghost use Rattle.listing.specs.Tables.{ListTables};
 ghost use Rattle.listing.specs.Stepping.{headsFrom, instructionsFrom, spotAt, liveAt, listsAt, Opened, BlockRecords};
 use crate::instructions::list_instruction;
-use records::kind_of;
-use records::record_at;
+use records::in_order::kind_at;
 use rows::copy_row;
 use rows::join;
 use rules::ROW_WORDS;
@@ -29,14 +29,14 @@ struct Spot {
 
 // How many instructions start from a place on and before place end.
 pub fn count_instructions(s: &[u8], start: usize, end: usize) -> usize
-    requires { ⌜ (start ≤ end) × (end ≤ recordCount (now s)) ⌝ }
+    requires { ⌜ (start ≤ end) × (end ≤ recordCount (now s)) × (ordered 0 (records (now s)) ≡ true) ⌝ }
     ensures { λ r. ⌜ r ≡ length (headsFrom (now (s .entry)) start end) ⌝ }
 {
     let mut count: usize = 0;
     let mut p = end;
     while p > start {
         p -= 1;
-        if kind_of(record_at(s, p)) == 4 {
+        if kind_at(s, p) == 4 {
             count += 1;
         }
     }
@@ -48,7 +48,7 @@ fn list_at(s: &[u8], p: usize, at: Spot, live: &mut [u64], lists: &mut [u64]) ->
     requires { ⌜ InRows (now s) × (p < at .end) × (at .end ≤ recordCount (now s)) × Opened (now s) p at × HasRow (now live) 0 × (rowWords * at .number ≤ length (now lists)) ⌝ }
     ensures { λ r. ⌜ (r ≡ spotAt (now (s .entry)) p at) × (rows (now (live .exit)) ≡ liveAt (now (s .entry)) p at (rows (now (live .entry)))) × (rows (now (lists .exit)) ≡ listsAt (now (s .entry)) p at (rows (now (live .entry))) (rows (now (lists .entry)))) ⌝ }
 {
-    if kind_of(record_at(s, p)) == 4 {
+    if kind_at(s, p) == 4 {
         let i = at.number - 1;
         list_instruction(s, p, at.end, live, lists, i);
         return Spot { end: p, number: i };

@@ -1,15 +1,15 @@
 // The list of one instruction: what is live across it if it is a safepoint. It is taken behind the arguments, where the edge
 // arguments are in and the results are out.
 ghost use mathlib.Core.Path.{_≡_};
-ghost use mathlib.Core.Bool.{cond};
+ghost use mathlib.Core.Bool.{cond, true};
 ghost use mathlib.Core.Option.{none, some};
 ghost use Prim.Native.Nat.{_*_, _<_, _≤_};
 ghost use lib.ListN.{length};
 ghost use lib.Dec.{T};
 ghost use Rattle.rules.specs.Limits.{rowWords};
 ghost use Rattle.rules.specs.Lists.{update};
-ghost use Rattle.rules.specs.Records.{encode, isSafepoint, recordAt, recordCount};
-ghost use Rattle.rules.specs.File.{instructionOf, functionIn};
+ghost use Rattle.rules.specs.Records.{encode, isSafepoint, recordAt, recordCount, records};
+ghost use Rattle.rules.specs.File.{instructionOf, functionIn, ordered};
 ghost use Rattle.rules.specs.Liveness.{before};
 ghost use Rattle.records.specs.Parts.{isInstruction};
 ghost use Rattle.graph.specs.Between.{between};
@@ -18,28 +18,27 @@ ghost use Rattle.blocksets.specs.InRows.{InRows};
 ghost use Rattle.listing.specs.Crossings.{put, crossing};
 ghost use Rattle.listing.specs.Across.{behindArguments, sectionAt};
 use blocksets::operands::go_back;
-use records::kind_of;
-use records::record_at;
-use records::words_of;
+use records::in_order::kind_at;
+use records::in_order::words_at;
 use rows::copy_row;
-use rules::Record;
 
-// Whether an instruction's record is that of a safepoint.
-pub fn is_safepoint(r: Record) -> bool
-    ensures { λ b. ⌜ b ≡ isSafepoint (encode r .second) ⌝ }
+// Whether the instruction whose record stands at place p is a safepoint.
+pub fn is_safepoint(s: &[u8], p: usize) -> bool
+    requires { ⌜ (p < recordCount (now s)) × (ordered 0 (records (now s)) ≡ true) ⌝ }
+    ensures { λ b. ⌜ b ≡ isSafepoint (encode (recordAt (now (s .entry)) p) .second) ⌝ }
 {
-    let w = words_of(r);
+    let w = words_at(s, p);
     w.second % 2 == 1
 }
 
 // The first place from a place on, and not behind place end, where no argument stands.
 fn behind_arguments(s: &[u8], from: usize, end: usize) -> usize
-    requires { ⌜ (from ≤ end) × (end ≤ recordCount (now s)) ⌝ }
+    requires { ⌜ (from ≤ end) × (end ≤ recordCount (now s)) × (ordered 0 (records (now s)) ≡ true) ⌝ }
     ensures { λ r. ⌜ (from ≤ r) × (r ≤ end) × (between (now (s .entry)) r end ≡ behindArguments (between (now (s .entry)) from end)) ⌝ }
 {
     let mut i = from;
     while i < end {
-        if kind_of(record_at(s, i)) != 6 {
+        if kind_at(s, i) != 6 {
             return i;
         }
         i += 1;
@@ -49,10 +48,10 @@ fn behind_arguments(s: &[u8], from: usize, end: usize) -> usize
 
 // Row i becomes what is live, if a safepoint stands at place p.
 fn list_live(s: &[u8], p: usize, live: &[u64], lists: &mut [u64], i: usize)
-    requires { ⌜ (p < recordCount (now s)) × HasRow (now live) 0 × HasRow (now lists) i ⌝ }
+    requires { ⌜ (p < recordCount (now s)) × HasRow (now live) 0 × HasRow (now lists) i × (ordered 0 (records (now s)) ≡ true) ⌝ }
     ensures { λ _. ⌜ rows (now (lists .exit)) ≡ put i (cond (isSafepoint (encode (recordAt (now (s .entry)) p) .second)) (some (rows (now (live .entry)) 0)) none) (rows (now (lists .entry))) ⌝ }
 {
-    if is_safepoint(record_at(s, p)) {
+    if is_safepoint(s, p) {
         copy_row(lists, i, live, 0);
     }
 }

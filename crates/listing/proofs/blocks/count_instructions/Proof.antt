@@ -1,17 +1,13 @@
 -- `listing::blocks::count_instructions` meets its contract.
-use Rattle.listing.proofs.Counting.{heads-none, heads-one, heads-other, heads-few}
-use Rattle.listing.specs.Stepping.{headsFrom}
-use Rattle.graph.specs.Sections.{places}
-use Rattle.graph.specs.Between.{between-none}
-use Rattle.rules.specs.Records.{kind, recordAt}
-use borrow.Author.Tests.{eq-eqb, ne-eqb}
-use native.Mathlib.Omega.{arith}
-use lib.ListN.{length}
+use Prim.Native.Nat.{_≤_, _-_}
+use mathlib.Core.Path.{_≡_, sym, _∙_, ap}
 use lib.Dec.{eqb}
-use mathlib.Core.List.{[]}
-use mathlib.Core.Bool.{Bool, true, false}
-use mathlib.Core.Path.{_≡_, refl, sym, _∙_, ap}
-use Prim.Native.Nat.{_≤_, _-_, _+_, suc}
+use lib.ListN.{length}
+use native.Mathlib.Omega.{arith}
+use borrow.Author.Tests.{eq-eqb, ne-eqb}
+use Rattle.rules.specs.Records.{kind, recordAt}
+use Rattle.listing.specs.Stepping.{headsFrom}
+use Rattle.listing.proofs.Counting.{heads-none, heads-one, heads-other, heads-few}
 use Rattle.listing.proofs.blocks.count_instructions.Statement.{statement}
 use Rattle.listing.proofs.blocks.count_instructions.Tie as tie
 
@@ -27,34 +23,31 @@ loop-holds c = (c .before .pre .0, omega arith, sym (heads-none (c .before .args
 sub-p : tie.Need-sub-p Inv-loop μ-loop
 sub-p c = omega arith
 
-record-at-requires : tie.Need-record-at-requires Inv-loop μ-loop
-record-at-requires c κs = omega (arith, c .before .before .before .pre .1)
-
-kind-of-requires : tie.Need-kind-of-requires Inv-loop μ-loop
-kind-of-requires c κs = tt
+kind-at-requires : tie.Need-kind-at-requires Inv-loop μ-loop
+kind-at-requires c κs = (omega (arith, c .before .before .before .pre .1), c .before .before .before .pre .2)
 
 add-count : tie.Need-add-count Inv-loop μ-loop
-add-count c = omega (arith, c .before .before .before .before .loop .inv .2, heads-few (c .before .before .before .before .before .before .args .s .now) (c .before .before .before .before .before .before .args .end) (c .before .before .before .before .before .before .pre .1) (c .before .before .before .before .loop .p) (c .before .before .before .before .loop .inv .1))
+add-count c = omega (arith, c .before .before .before .loop .inv .2, heads-few (c .before .before .before .before .before .args .s .now) (c .before .before .before .before .before .args .end) (c .before .before .before .before .before .pre .1) (c .before .before .before .loop .p) (c .before .before .before .loop .inv .1))
 
 loop-less : tie.Need-loop-less Inv-loop μ-loop
 loop-less c = omega arith
 
 loop-again : tie.Need-loop-again Inv-loop μ-loop
 loop-again c =
-    let s = c .before .before .before .before .before .before .args .s .now in
-    let k : c .before .kind-of .result ≡ kind (recordAt s (c .before .before .before .before .loop .p - 1)) = c .before .kind-of .ensures .0 ∙ ap kind (c .before .before .record-at .ensures) in
-    let e = heads-one s (c .before .before .before .before .before .before .args .end) (c .before .before .before .before .before .before .pre .1) (c .before .before .before .before .loop .p) (omega arith) (c .before .before .before .before .loop .inv .1) (ap (λ x. eqb x 4) (sym k) ∙ eq-eqb (c .before .kind-of .result) 4 (c .if1 .taken)) in
-    (omega arith, omega (arith, c .before .before .before .before .loop .inv .1), omega (arith, c .before .before .before .before .loop .inv .2, e))
+    let s = c .before .before .before .before .before .args .s .now in
+    let k : c .before .kind-at .result ≡ kind (recordAt s (c .before .before .before .loop .p - 1)) = c .before .kind-at .ensures .0 in
+    let e = heads-one s (c .before .before .before .before .before .args .end) (c .before .before .before .before .before .pre .1) (c .before .before .before .loop .p) (omega arith) (c .before .before .before .loop .inv .1) (ap (λ x. eqb x 4) (sym k) ∙ eq-eqb (c .before .kind-at .result) 4 (c .if1 .taken)) in
+    (omega arith, omega (arith, c .before .before .before .loop .inv .1), omega (arith, c .before .before .before .loop .inv .2, e))
 
 loop-less-2 : tie.Need-loop-less-2 Inv-loop μ-loop
 loop-less-2 c = omega arith
 
 loop-again-2 : tie.Need-loop-again-2 Inv-loop μ-loop
 loop-again-2 c =
-    let s = c .before .before .before .before .before .before .args .s .now in
-    let k : c .before .kind-of .result ≡ kind (recordAt s (c .before .before .before .before .loop .p - 1)) = c .before .kind-of .ensures .0 ∙ ap kind (c .before .before .record-at .ensures) in
-    let e = heads-other s (c .before .before .before .before .before .before .args .end) (c .before .before .before .before .before .before .pre .1) (c .before .before .before .before .loop .p) (omega arith) (c .before .before .before .before .loop .inv .1) (ap (λ x. eqb x 4) (sym k) ∙ ne-eqb (c .before .kind-of .result) 4 (c .if1 .left)) in
-    (omega arith, omega (arith, c .before .before .before .before .loop .inv .1), omega (arith, c .before .before .before .before .loop .inv .2, e))
+    let s = c .before .before .before .before .before .args .s .now in
+    let k : c .before .kind-at .result ≡ kind (recordAt s (c .before .before .before .loop .p - 1)) = c .before .kind-at .ensures .0 in
+    let e = heads-other s (c .before .before .before .before .before .args .end) (c .before .before .before .before .before .pre .1) (c .before .before .before .loop .p) (omega arith) (c .before .before .before .loop .inv .1) (ap (λ x. eqb x 4) (sym k) ∙ ne-eqb (c .before .kind-at .result) 4 (c .if1 .left)) in
+    (omega arith, omega (arith, c .before .before .before .loop .inv .1), omega (arith, c .before .before .before .loop .inv .2, e))
 
 returns : tie.Need-returns Inv-loop μ-loop
 returns c =
@@ -69,8 +62,7 @@ count-instructions-spec =
     μ-loop
     loop-holds
     sub-p
-    record-at-requires
-    kind-of-requires
+    kind-at-requires
     add-count
     loop-less
     loop-again

@@ -1,4 +1,7 @@
 -- `listing::blocks::list_reachable` meets its contract.
+use Rattle.lists.specs.Tests.{is-true}
+use Rattle.rules.specs.Records.{records}
+use Rattle.rules.specs.File.{ordered}
 use Rattle.listing.specs.Tables.{list-in-rows, below-fits, block-records, behind-block, block-listed, block-unlisted}
 use Rattle.graph.specs.ByTable.{places-long, end-le, start-less}
 use Rattle.rows.specs.Rows.{rows}
@@ -28,7 +31,7 @@ shared-slice-read-end : tie.Need-shared-slice-read-end
 shared-slice-read-end c = omega (arith, c .before .before .before .before .before .before .before .pre .1, places-long (c .before .before .before .before .before .before .before .args .s .now) (c .before .before .before .before .before .before .before .args .places .now) (c .before .before .before .before .before .before .before .pre .0 .tables .given))
 
 count-instructions-requires : tie.Need-count-instructions-requires
-count-instructions-requires c κs = (start-less (c .before .before .before .before .before .before .before .args .s .now) (c .before .before .before .before .before .before .before .args .places .now) (c .before .before .before .before .before .before .before .pre .0 .tables .given) (c .before .before .before .before .before .before .before .args .b) (c .before .before .before .before .before .before .before .pre .1), end-le (c .before .before .before .before .before .before .before .args .s .now) (c .before .before .before .before .before .before .before .args .places .now) (c .before .before .before .before .before .before .before .pre .0 .tables .given) (c .before .before .before .before .before .before .before .args .b) (c .before .before .before .before .before .before .before .pre .1))
+count-instructions-requires c κs = (start-less (c .before .before .before .before .before .before .before .args .s .now) (c .before .before .before .before .before .before .before .args .places .now) (c .before .before .before .before .before .before .before .pre .0 .tables .given) (c .before .before .before .before .before .before .before .args .b) (c .before .before .before .before .before .before .before .pre .1), end-le (c .before .before .before .before .before .before .before .args .s .now) (c .before .before .before .before .before .before .before .args .places .now) (c .before .before .before .before .before .before .before .pre .0 .tables .given) (c .before .before .before .before .before .before .before .args .b) (c .before .before .before .before .before .before .before .pre .1), is-true (ordered 0 (records (c .before .before .before .before .before .before .before .args .s .now))) (c .before .before .before .before .before .before .before .pre .0 .tables .given .inOrder))
 
 add-behind : tie.Need-add-behind
 add-behind c =

@@ -1,14 +1,13 @@
 -- `listing::instructions::behind_arguments` meets its contract.
-use Rattle.listing.proofs.Arguments.{behind-done, behind-argument, behind-other}
-use Rattle.listing.specs.Across.{behindArguments}
-use Rattle.graph.specs.Between.{between}
-use Rattle.rules.specs.Records.{kind, recordAt}
-use borrow.Author.Tests.{eq-eqb, ne-eqb}
-use native.Mathlib.Omega.{arith}
-use lib.Dec.{eqb}
-use mathlib.Core.Bool.{true, false}
+use Prim.Native.Nat.{_≤_, _-_}
 use mathlib.Core.Path.{_≡_, refl, sym, _∙_, ap}
-use Prim.Native.Nat.{_≤_, _-_, _+_}
+use lib.Dec.{eqb}
+use native.Mathlib.Omega.{arith}
+use borrow.Author.Tests.{eq-eqb, ne-eqb}
+use Rattle.rules.specs.Records.{kind, recordAt}
+use Rattle.graph.specs.Between.{between}
+use Rattle.listing.specs.Across.{behindArguments}
+use Rattle.listing.proofs.Arguments.{behind-done, behind-argument, behind-other}
 use Rattle.listing.proofs.instructions.behind_arguments.Statement.{statement}
 use Rattle.listing.proofs.instructions.behind_arguments.Tie as tie
 
@@ -21,34 +20,31 @@ abbrev μ-loop : tie.MeasureT-loop
 loop-holds : tie.Need-loop-holds Inv-loop μ-loop
 loop-holds c = (omega arith, c .before .pre .0, refl)
 
-record-at-requires : tie.Need-record-at-requires Inv-loop μ-loop
-record-at-requires c κs = omega (arith, c .before .before .before .pre .1)
-
-kind-of-requires : tie.Need-kind-of-requires Inv-loop μ-loop
-kind-of-requires c κs = tt
+kind-at-requires : tie.Need-kind-at-requires Inv-loop μ-loop
+kind-at-requires c κs = (omega (arith, c .before .before .before .pre .1), c .before .before .before .pre .2)
 
 returns : tie.Need-returns Inv-loop μ-loop
 returns c =
-    let s = c .before .before .before .before .before .before .args .s .now in
-    let k : c .before .kind-of .result ≡ kind (recordAt s (c .before .before .before .before .loop .i)) = c .before .kind-of .ensures .0 ∙ ap kind (c .before .before .record-at .ensures) in (
-      c .before .before .before .before .loop .inv .0,
-      c .before .before .before .before .loop .inv .1,
-      behind-other s (c .before .before .before .before .loop .i) (c .before .before .before .before .before .before .args .end) (c .before .before .before .loop-test .taken) (c .before .before .before .before .before .before .pre .1) (ap (λ x. eqb x 6) (sym k) ∙ ne-eqb (c .before .kind-of .result) 6 (c .if1 .taken)) ∙ c .before .before .before .before .loop .inv .2,
+    let s = c .before .before .before .before .before .args .s .now in
+    let k : c .before .kind-at .result ≡ kind (recordAt s (c .before .before .before .loop .i)) = c .before .kind-at .ensures .0 in (
+      c .before .before .before .loop .inv .0,
+      c .before .before .before .loop .inv .1,
+      behind-other s (c .before .before .before .loop .i) (c .before .before .before .before .before .args .end) (c .before .before .loop-test .taken) (c .before .before .before .before .before .pre .1) (ap (λ x. eqb x 6) (sym k) ∙ ne-eqb (c .before .kind-at .result) 6 (c .if1 .taken)) ∙ c .before .before .before .loop .inv .2,
     )
 
 add-i : tie.Need-add-i Inv-loop μ-loop
-add-i c = omega (arith, c .before .before .before .loop-test .taken)
+add-i c = omega (arith, c .before .before .loop-test .taken)
 
 loop-less : tie.Need-loop-less Inv-loop μ-loop
 loop-less c = omega arith
 
 loop-again : tie.Need-loop-again Inv-loop μ-loop
 loop-again c =
-    let s = c .before .before .before .before .before .before .args .s .now in
-    let k : c .before .kind-of .result ≡ kind (recordAt s (c .before .before .before .before .loop .i)) = c .before .kind-of .ensures .0 ∙ ap kind (c .before .before .record-at .ensures) in (
-      omega (arith, c .before .before .before .before .loop .inv .0),
+    let s = c .before .before .before .before .before .args .s .now in
+    let k : c .before .kind-at .result ≡ kind (recordAt s (c .before .before .before .loop .i)) = c .before .kind-at .ensures .0 in (
+      omega (arith, c .before .before .before .loop .inv .0),
       omega arith,
-      behind-argument s (c .before .before .before .before .loop .i) (c .before .before .before .before .before .before .args .end) (c .before .before .before .loop-test .taken) (c .before .before .before .before .before .before .pre .1) (ap (λ x. eqb x 6) (sym k) ∙ eq-eqb (c .before .kind-of .result) 6 (c .if1 .left)) ∙ c .before .before .before .before .loop .inv .2,
+      behind-argument s (c .before .before .before .loop .i) (c .before .before .before .before .before .args .end) (c .before .before .loop-test .taken) (c .before .before .before .before .before .pre .1) (ap (λ x. eqb x 6) (sym k) ∙ eq-eqb (c .before .kind-at .result) 6 (c .if1 .left)) ∙ c .before .before .before .loop .inv .2,
     )
 
 returns-2 : tie.Need-returns-2 Inv-loop μ-loop
@@ -62,8 +58,7 @@ behind-arguments-spec =
     Inv-loop
     μ-loop
     loop-holds
-    record-at-requires
-    kind-of-requires
+    kind-at-requires
     returns
     add-i
     loop-less

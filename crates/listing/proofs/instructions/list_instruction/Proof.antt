@@ -1,4 +1,7 @@
 -- `listing::instructions::list_instruction` meets its contract.
+use Rattle.lists.specs.Tests.{is-true}
+use Rattle.rules.specs.Records.{records}
+use Rattle.rules.specs.File.{ordered}
 use Rattle.listing.proofs.Instruction.{crossed-listed, crossed-before}
 use Rattle.rows.specs.Rows.{rows}
 use borrow.Author.Needs.{needs}
@@ -9,13 +12,13 @@ add-first : tie.Need-add-first
 add-first c = search needs
 
 behind-arguments-requires : tie.Need-behind-arguments-requires
-behind-arguments-requires c κs = search needs
+behind-arguments-requires c κs = (search needs, search needs, is-true (ordered 0 (records (c .before .before .before .args .s .now))) (c .before .before .before .pre .0 .inOrder))
 
 go-back-requires : tie.Need-go-back-requires
 go-back-requires c κs = search needs
 
 list-live-requires : tie.Need-list-live-requires
-list-live-requires c κs = search needs
+list-live-requires c κs = (search needs, search needs, search needs, is-true (ordered 0 (records (c .before .before .before .before .before .before .before .before .before .before .args .s .now))) (c .before .before .before .before .before .before .before .before .before .before .pre .0 .inOrder))
 
 go-back-requires-2 : tie.Need-go-back-requires-2
 go-back-requires-2 c κs = search needs

@@ -1,10 +1,12 @@
 -- `listing::safepoints::is_reachable_safepoint` meets its contract.
+use Rattle.lists.specs.Tests.{is-true}
+use Rattle.rules.specs.Records.{records}
 use Rattle.listing.specs.HasList.{isSafepointAt, thereFrom, thereFrom-all, thereFrom-done, thereFrom-behind, thereFrom-reachable, thereFrom-unreachable}
 use Rattle.listing.specs.Tables.{instructions-by-table, length-heads, tag-reachable, tag-unreachable}
 use Rattle.listing.specs.Crossings.{crossings}
 use Rattle.graph.specs.ByTable.{places-long, end-le, start-less}
 use Rattle.rules.specs.Liveness.{lists}
-use Rattle.rules.specs.File.{functionIn}
+use Rattle.rules.specs.File.{functionIn, ordered}
 use Rattle.rules.specs.Tree.{Instruction}
 use Rattle.rules.specs.Lists.{isNone}
 use native.Mathlib.Omega.{arith}
@@ -49,7 +51,7 @@ shared-slice-read-end c = omega (arith, c .before .before .loop-test .taken, c .
 count-instructions-requires : tie.Need-count-instructions-requires Inv-loop μ-loop
 count-instructions-requires c κs =
     let l : c .before .before .before .loop .b < length (functionIn (c .before .before .before .before .before .before .before .args .s .now) .blocks) = omega (arith, c .before .before .loop-test .taken, c .before .before .before .before .before .before .before .pre .1) in
-    (start-less (c .before .before .before .before .before .before .before .args .s .now) (c .before .before .before .before .before .before .before .args .places .now) (c .before .before .before .before .before .before .before .pre .0 .given) (c .before .before .before .loop .b) l, end-le (c .before .before .before .before .before .before .before .args .s .now) (c .before .before .before .before .before .before .before .args .places .now) (c .before .before .before .before .before .before .before .pre .0 .given) (c .before .before .before .loop .b) l)
+    (start-less (c .before .before .before .before .before .before .before .args .s .now) (c .before .before .before .before .before .before .before .args .places .now) (c .before .before .before .before .before .before .before .pre .0 .given) (c .before .before .before .loop .b) l, end-le (c .before .before .before .before .before .before .before .args .s .now) (c .before .before .before .before .before .before .before .args .places .now) (c .before .before .before .before .before .before .before .pre .0 .given) (c .before .before .before .loop .b) l, is-true (ordered 0 (records (c .before .before .before .before .before .before .before .args .s .now))) (c .before .before .before .before .before .before .before .pre .0 .given .inOrder))
 
 mul-if2 : tie.Need-mul-if2 Inv-loop μ-loop
 mul-if2 c = omega (arith, c .before .before .before .before .loop-test .taken, c .before .before .before .before .before .before .before .before .before .pre .1, c .before .before .before .before .before .before .before .before .before .pre .0 .indexRoom)
@@ -67,7 +69,7 @@ returns c =
 safepoint-in-requires : tie.Need-safepoint-in-requires Inv-loop μ-loop
 safepoint-in-requires c κs =
     let l : c .before .before .before .before .before .before .before .loop .b < length (functionIn (c .before .before .before .before .before .before .before .before .before .before .before .args .s .now) .blocks) = omega (arith, c .before .before .before .before .before .before .loop-test .taken, c .before .before .before .before .before .before .before .before .before .before .before .pre .1) in
-    (start-less (c .before .before .before .before .before .before .before .before .before .before .before .args .s .now) (c .before .before .before .before .before .before .before .before .before .before .before .args .places .now) (c .before .before .before .before .before .before .before .before .before .before .before .pre .0 .given) (c .before .before .before .before .before .before .before .loop .b) l, end-le (c .before .before .before .before .before .before .before .before .before .before .before .args .s .now) (c .before .before .before .before .before .before .before .before .before .before .before .args .places .now) (c .before .before .before .before .before .before .before .before .before .before .before .pre .0 .given) (c .before .before .before .before .before .before .before .loop .b) l)
+    (start-less (c .before .before .before .before .before .before .before .before .before .before .before .args .s .now) (c .before .before .before .before .before .before .before .before .before .before .before .args .places .now) (c .before .before .before .before .before .before .before .before .before .before .before .pre .0 .given) (c .before .before .before .before .before .before .before .loop .b) l, end-le (c .before .before .before .before .before .before .before .before .before .before .before .args .s .now) (c .before .before .before .before .before .before .before .before .before .before .before .args .places .now) (c .before .before .before .before .before .before .before .before .before .before .before .pre .0 .given) (c .before .before .before .before .before .before .before .loop .b) l, is-true (ordered 0 (records (c .before .before .before .before .before .before .before .before .before .before .before .args .s .now))) (c .before .before .before .before .before .before .before .before .before .before .before .pre .0 .given .inOrder))
 
 returns-2 : tie.Need-returns-2 Inv-loop μ-loop
 returns-2 c =

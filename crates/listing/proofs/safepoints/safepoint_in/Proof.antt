@@ -1,18 +1,17 @@
 -- `listing::safepoints::safepoint_in` meets its contract.
-use Rattle.listing.specs.HasList.{isSafepointAt, safepoint-here, safepoint-later, safepoint-other}
-use Rattle.listing.specs.Stepping.{opens, instructionsFrom}
-use Rattle.graph.specs.Sections.{places, sectionsAt}
-use Rattle.graph.specs.Between.{between-none}
-use Rattle.rules.specs.declared.Record.{Record}
-use Rattle.rules.specs.Records.{kind, isSafepoint, encode}
-use Rattle.rules.specs.File.{instructionOf}
-use borrow.Author.Tests.{eq-eqb, ne-eqb}
-use native.Mathlib.Omega.{arith}
-use lib.Dec.{eqb}
-use mathlib.Core.List.{List, map}
-use mathlib.Core.Bool.{true, false}
-use mathlib.Core.Path.{_≡_, refl, sym, _∙_, ap}
 use Prim.Native.Nat.{ℕ, _≤_, _-_}
+use mathlib.Core.Path.{_≡_, refl, sym, _∙_, ap}
+use mathlib.Core.Bool.{true, false}
+use mathlib.Core.List.{List, map}
+use lib.Dec.{eqb}
+use native.Mathlib.Omega.{arith}
+use borrow.Author.Tests.{eq-eqb, ne-eqb}
+use Rattle.rules.specs.File.{instructionOf}
+use Rattle.rules.specs.declared.Record.{Record}
+use Rattle.graph.specs.Between.{between-none}
+use Rattle.graph.specs.Sections.{places, sectionsAt}
+use Rattle.listing.specs.Stepping.{opens, instructionsFrom}
+use Rattle.listing.specs.HasList.{isSafepointAt, safepoint-here, safepoint-later, safepoint-other}
 use Rattle.listing.proofs.safepoints.safepoint_in.Statement.{statement}
 use Rattle.listing.proofs.safepoints.safepoint_in.Tie as tie
 
@@ -25,53 +24,49 @@ abbrev μ-loop : tie.MeasureT-loop
 loop-holds : tie.Need-loop-holds Inv-loop μ-loop
 loop-holds c = (omega arith, c .before .pre .0, refl)
 
-record-at-requires : tie.Need-record-at-requires Inv-loop μ-loop
-record-at-requires c κs = omega (arith, c .before .before .before .pre .1)
-
 add-p : tie.Need-add-p Inv-loop μ-loop
-add-p c = omega (arith, c .before .loop-test .taken)
+add-p c = omega (arith, c .loop-test .taken)
 
-kind-of-requires : tie.Need-kind-of-requires Inv-loop μ-loop
-kind-of-requires c κs = tt
+kind-at-requires : tie.Need-kind-at-requires Inv-loop μ-loop
+kind-at-requires c κs = (omega (arith, c .before .before .before .pre .1, c .loop-test .taken), c .before .before .before .pre .2)
 
 is-safepoint-requires : tie.Need-is-safepoint-requires Inv-loop μ-loop
-is-safepoint-requires c κs = tt
+is-safepoint-requires c κs = (omega (arith, c .before .before .before .before .before .before .pre .1, c .before .before .before .loop-test .taken), c .before .before .before .before .before .before .pre .2)
 
 returns : tie.Need-returns Inv-loop μ-loop
 returns c =
-    let s = c .before .before .before .before .before .before .before .before .args .s .now in
-    let k : opens s (c .before .before .before .before .before .before .loop .p) ≡ true = ap (λ x. eqb x 4) (sym (c .before .before .before .kind-of .ensures .0 ∙ ap kind (c .before .before .before .before .record-at .ensures))) ∙ eq-eqb (c .before .before .before .kind-of .result) 4 (c .before .before .if1 .taken) in
+    let s = c .before .before .before .before .before .before .before .args .s .now in
+    let k : opens s (c .before .before .before .before .before .loop .p) ≡ true = ap (λ x. eqb x 4) (sym (c .before .before .before .kind-at .ensures .0)) ∙ eq-eqb (c .before .before .before .kind-at .result) 4 (c .before .before .if1 .taken) in
     c .is-safepoint .ensures
-    ∙ ap (λ (r : Record). isSafepoint (encode r .second)) (c .before .before .before .before .record-at .ensures)
-    ∙ sym (safepoint-here s (c .before .before .before .before .before .before .before .before .args .end) (c .before .before .before .before .before .before .before .before .pre .1) (c .before .before .before .before .before .before .loop .p) (c .before .before .before .before .before .loop-test .taken) k)
-    ∙ ap (isSafepointAt (instructionsFrom s (c .before .before .before .before .before .before .loop .p) (c .before .before .before .before .before .before .before .before .args .end))) (sym (c .before .if2 .taken))
-    ∙ c .before .before .before .before .before .before .loop .inv .2
+    ∙ sym (safepoint-here s (c .before .before .before .before .before .before .before .args .end) (c .before .before .before .before .before .before .before .pre .1) (c .before .before .before .before .before .loop .p) (c .before .before .before .before .loop-test .taken) k)
+    ∙ ap (isSafepointAt (instructionsFrom s (c .before .before .before .before .before .loop .p) (c .before .before .before .before .before .before .before .args .end))) (sym (c .before .if2 .taken))
+    ∙ c .before .before .before .before .before .loop .inv .2
 
 sub-left : tie.Need-sub-left Inv-loop μ-loop
 sub-left c = omega (arith, c .if2 .left)
 
 loop-less : tie.Need-loop-less Inv-loop μ-loop
-loop-less c = omega (arith, c .before .before .before .before .loop-test .taken)
+loop-less c = omega (arith, c .before .before .before .loop-test .taken)
 
 loop-again : tie.Need-loop-again Inv-loop μ-loop
 loop-again c =
-    let s = c .before .before .before .before .before .before .before .args .s .now in
-    let k : opens s (c .before .before .before .before .before .loop .p) ≡ true = ap (λ x. eqb x 4) (sym (c .before .before .kind-of .ensures .0 ∙ ap kind (c .before .before .before .record-at .ensures))) ∙ eq-eqb (c .before .before .kind-of .result) 4 (c .before .if1 .taken) in (
-      omega (arith, c .before .before .before .before .before .loop .inv .0),
-      omega (arith, c .before .before .before .before .loop-test .taken),
-      sym (safepoint-later s (c .before .before .before .before .before .before .before .args .end) (c .before .before .before .before .before .before .before .pre .1) (c .before .before .before .before .before .loop .p) (c .before .before .before .before .loop-test .taken) (c .before .before .before .before .before .loop .left) (omega (arith, c .if2 .left)) k) ∙ c .before .before .before .before .before .loop .inv .2,
+    let s = c .before .before .before .before .before .before .args .s .now in
+    let k : opens s (c .before .before .before .before .loop .p) ≡ true = ap (λ x. eqb x 4) (sym (c .before .before .kind-at .ensures .0)) ∙ eq-eqb (c .before .before .kind-at .result) 4 (c .before .if1 .taken) in (
+      omega (arith, c .before .before .before .before .loop .inv .0),
+      omega (arith, c .before .before .before .loop-test .taken),
+      sym (safepoint-later s (c .before .before .before .before .before .before .args .end) (c .before .before .before .before .before .before .pre .1) (c .before .before .before .before .loop .p) (c .before .before .before .loop-test .taken) (c .before .before .before .before .loop .left) (omega (arith, c .if2 .left)) k) ∙ c .before .before .before .before .loop .inv .2,
     )
 
 loop-less-2 : tie.Need-loop-less-2 Inv-loop μ-loop
-loop-less-2 c = omega (arith, c .before .before .before .loop-test .taken)
+loop-less-2 c = omega (arith, c .before .before .loop-test .taken)
 
 loop-again-2 : tie.Need-loop-again-2 Inv-loop μ-loop
 loop-again-2 c =
-    let s = c .before .before .before .before .before .before .args .s .now in
-    let k : opens s (c .before .before .before .before .loop .p) ≡ false = ap (λ x. eqb x 4) (sym (c .before .kind-of .ensures .0 ∙ ap kind (c .before .before .record-at .ensures))) ∙ ne-eqb (c .before .kind-of .result) 4 (c .if1 .left) in (
-      omega (arith, c .before .before .before .before .loop .inv .0),
-      omega (arith, c .before .before .before .loop-test .taken),
-      sym (safepoint-other s (c .before .before .before .before .before .before .args .end) (c .before .before .before .before .before .before .pre .1) (c .before .before .before .before .loop .p) (c .before .before .before .loop-test .taken) (c .before .before .before .before .loop .left) k) ∙ c .before .before .before .before .loop .inv .2,
+    let s = c .before .before .before .before .before .args .s .now in
+    let k : opens s (c .before .before .before .loop .p) ≡ false = ap (λ x. eqb x 4) (sym (c .before .kind-at .ensures .0)) ∙ ne-eqb (c .before .kind-at .result) 4 (c .if1 .left) in (
+      omega (arith, c .before .before .before .loop .inv .0),
+      omega (arith, c .before .before .loop-test .taken),
+      sym (safepoint-other s (c .before .before .before .before .before .args .end) (c .before .before .before .before .before .pre .1) (c .before .before .before .loop .p) (c .before .before .loop-test .taken) (c .before .before .before .loop .left) k) ∙ c .before .before .before .loop .inv .2,
     )
 
 returns-2 : tie.Need-returns-2 Inv-loop μ-loop
@@ -89,9 +84,8 @@ safepoint-in-spec =
     Inv-loop
     μ-loop
     loop-holds
-    record-at-requires
     add-p
-    kind-of-requires
+    kind-at-requires
     is-safepoint-requires
     returns
     sub-left
