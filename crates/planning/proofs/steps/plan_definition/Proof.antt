@@ -6,7 +6,7 @@ use Rattle.planning.proofs.steps.plan_definition.Statement.{statement}
 use Rattle.planning.proofs.steps.plan_definition.Tie as tie
 
 operand-at-requires : tie.Need-operand-at-requires
-operand-at-requires c κs = search needs
+operand-at-requires c κs = (search needs, c .before .before .before .before .before .before .pre .0 .inOrder)
 
 among-requires : tie.Need-among-requires
 among-requires c κs = search needs
