@@ -3,3 +3,4 @@ pub mod Naming
 pub mod Storing
 pub mod OneRecord
 pub mod Slotting
+pub mod NoArgument

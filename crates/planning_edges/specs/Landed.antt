@@ -8,7 +8,6 @@ use mathlib.Core.List.{List, [], _∷_, _++_, map, append-assoc}
 use native.Mathlib.Omega.{arith}
 use lib.ListN.{length, getD, set, length-set}
 use lib.Dec.{T, eqb}
-use borrow.Author.Tests.{eq-eqb, ne-eqb}
 use Rattle.rules.specs.Lists.{zipWith}
 use Rattle.rules.specs.Tree.{Value, Function}
 use Rattle.rules.specs.Records.{encode, kind, recordAt, recordCount, records}
@@ -41,13 +40,6 @@ behindFirst (w ∷ ws) = ws
 -- an edge argument that is a returned or an exception word
 abbrev pub isWord : Words → Bool
 isWord w = eqb (w .kind) 8 && not (eqb (w .second) 0)
-
--- by its kind
-pub word-kind : (w v : Words) → w ≡ v → w .kind ≡ 8 → not (eqb (w .second) 0) ≡ isWord v
-word-kind w v e k = sym (ap (λ (b : Bool). b && not (eqb (w .second) 0)) (eq-eqb (w .kind) 8 k)) ∙ ap isWord e
-
-pub word-other : (w v : Words) → w ≡ v → (w .kind ≡ 8 → ⊥) → eqb (w .kind) 8 ≡ isWord v
-word-other w v e k = ne-eqb (w .kind) 8 k ∙ sym (ap (λ (b : Bool). b && not (eqb (w .second) 0)) (ne-eqb (w .kind) 8 k)) ∙ ap isWord e
 
 -- the steps for an edge's arguments, with the parameters at the same positions
 abbrev pub zipped : List ℕ → ℕ → List EdgeArgument → List ℕ → List (Planning Made)

@@ -1,9 +1,10 @@
 // The edges of an instruction: at a safepoint rule 2, else rule 3 for their arguments.
 ghost use mathlib.Core.Path.{_≡_};
+ghost use mathlib.Core.Bool.{true};
 ghost use Prim.Native.Nat.{_-_, _≤_};
 ghost use lib.ListN.{length};
-ghost use Rattle.rules.specs.Records.{recordCount};
-ghost use Rattle.rules.specs.File.{functionIn};
+ghost use Rattle.rules.specs.Records.{recordCount, records};
+ghost use Rattle.rules.specs.File.{functionIn, ordered};
 ghost use Rattle.graph.specs.Tables.{Given};
 ghost use Rattle.planning.specs.Standing.{tables};
 ghost use Rattle.planning.specs.Operands.{Reading, Range};
@@ -18,7 +19,7 @@ use planning::runs::plan_uses;
 
 // The place of the first edge from a place on and before place end, or end.
 fn next_edge_place(s: &[u8], from: usize, end: usize) -> usize
-    requires { ⌜ (from ≤ end) × (end ≤ recordCount (now s)) ⌝ }
+    requires { ⌜ (from ≤ end) × (end ≤ recordCount (now s)) × (ordered 0 (records (now s)) ≡ true) ⌝ }
     ensures { λ r. ⌜ r ≡ nextEdgePlace (now (s .entry)) from end ⌝ }
 {
     let e = next_edge(s, from, end);

@@ -4,8 +4,9 @@ ghost use mathlib.Core.Path.{_≡_};
 ghost use mathlib.Core.List.{[], _∷_};
 ghost use Prim.Native.Nat.{_+_, _-_, _<_, _≤_};
 ghost use lib.ListN.{length};
-ghost use Rattle.rules.specs.Records.{encode, recordAt, recordCount};
-ghost use Rattle.rules.specs.File.{functionIn};
+ghost use Rattle.rules.specs.Records.{encode, recordAt, recordCount, records};
+ghost use Rattle.rules.specs.File.{functionIn, ordered};
+ghost use Rattle.rules.specs.declared.Record.the-variants.{EdgeArgument as RecordOfArgument};
 ghost use Rattle.rules.specs.Liveness.{isSpilled};
 ghost use Rattle.rules.specs.Plan.{planLanding};
 ghost use Rattle.graph.specs.Between.{between};
@@ -23,18 +24,40 @@ use planning::operands::Operand;
 use planning::operands::among;
 use planning::operands::operand_at;
 use planning::steps::plan_use;
-use records::record_at;
+use records::in_order::decoded_at;
+use records::in_order::words_at;
+use records::in_order::words_from;
 use records::values::size_of;
-use records::values::words_from;
-use records::words_of;
+use rules::EdgeArgument;
+use rules::Record;
 
-// Whether the record at a place is an edge argument that is a returned or an exception word.
+// Whether an edge argument is a returned or an exception word.
+fn is_word_argument(x: EdgeArgument) -> bool
+    ensures { λ b. ⌜ b ≡ isWord (encode (RecordOfArgument x)) ⌝ }
+{
+    match x {
+        EdgeArgument::Value(_) => false,
+        EdgeArgument::Returned(_) => true,
+        EdgeArgument::Exception(_) => true,
+    }
+}
+
+// Whether a record is an edge argument that is one.
+fn passes_word(r: Record) -> bool
+    ensures { λ b. ⌜ b ≡ isWord (encode r) ⌝ }
+{
+    match r {
+        Record::EdgeArgument(x) => is_word_argument(x),
+        _ => false,
+    }
+}
+
+// Whether the record at a place is.
 fn is_word(s: &[u8], place: usize) -> bool
-    requires { ⌜ place < recordCount (now s) ⌝ }
+    requires { ⌜ (place < recordCount (now s)) × (ordered 0 (records (now s)) ≡ true) ⌝ }
     ensures { λ r. ⌜ r ≡ isWord (encode (recordAt (now (s .entry)) place)) ⌝ }
 {
-    let w = words_of(record_at(s, place));
-    w.kind == 8 && w.second != 0
+    passes_word(decoded_at(s, place))
 }
 
 // One record of an edge that gets a landing: an argument's value is loaded there if it is spilled, and a word becomes a
@@ -148,7 +171,7 @@ fn plan_landing(
     requires { ⌜ Reading (now s) (now spilled) × Given (now s) (now places) × EdgeRecords (now s) place end × (end ≤ length (now numbers)) × Blank (Within (now s) edgeKind place end) (now numbers) × Able (functionIn (now s)) (tables (now asked) (now steps) (now sizes) p) (end - place) ⌝ }
     ensures { λ r. ⌜ Noted (functionIn (now (s .entry))) (Within (now (s .entry)) edgeKind place end) (λ ns. edgePlanAt (now (s .entry)) ns place end) (planLanding (functionIn (now (s .entry))) (p .pointer) (edgeAt (now (s .entry)) place end)) (end - place) (tables (now (asked .entry)) (now (steps .entry)) (now (sizes .entry)) p) (now (numbers .entry)) (tables (now (asked .exit)) (now (steps .exit)) (now (sizes .exit)) r) (now (numbers .exit)) ⌝ }
 {
-    let w = words_of(record_at(s, place));
+    let w = words_at(s, place);
     let first = places[w.second as usize] + 1;
     let blocks = p.blocks + 1;
     numbers[place] = blocks as u32;

@@ -15,7 +15,7 @@ abbrev μ-loop : tie.MeasureT-loop
 μ-loop s places spilled safepoint start end asked₀ steps₀ sizes₀ numbers₀ done₀ i₀ asked steps sizes numbers done i = end - i
 
 next-edge-place-requires : tie.Need-next-edge-place-requires Inv-loop μ-loop
-next-edge-place-requires c κs = search needs
+next-edge-place-requires c κs = (search needs, search needs, c .before .before .before .before .before .before .before .pre .0 .inOrder)
 
 loop-holds : tie.Need-loop-holds Inv-loop μ-loop
 loop-holds c = edges-begun (c .before .before .before .before .before .before .before .before .args .s .now) (c .before .before .before .before .before .before .before .before .args .p .pointer) (c .before .before .before .before .before .before .before .before .args .safepoint) (c .before .before .before .before .before .before .before .before .args .start) (tables (c .before .before .before .before .before .before .before .before .args .asked .now) (c .before .before .before .before .before .before .before .before .args .steps .now) (c .before .before .before .before .before .before .before .before .args .sizes .now) (c .before .before .before .before .before .before .before .before .args .p)) (c .before .before .before .before .before .before .before .before .args .numbers .now) (c .before .before .before .before .before .before .before .before .args .end) (c .before .before .before .before .before .before .before .before .pre .2 .up) (c .before .before .before .before .before .before .before .before .pre .2 .inFile) (c .next-edge-place .result) (c .next-edge-place .ensures)
@@ -24,7 +24,7 @@ add-next-edge-place : tie.Need-add-next-edge-place Inv-loop μ-loop
 add-next-edge-place c = search needs
 
 next-edge-place-requires-2 : tie.Need-next-edge-place-requires-2 Inv-loop μ-loop
-next-edge-place-requires-2 c κs = (omega (arith, c .loop-test .taken), c .before .before .before .before .before .before .before .before .before .before .pre .2 .inFile)
+next-edge-place-requires-2 c κs = (omega (arith, c .loop-test .taken), c .before .before .before .before .before .before .before .before .before .before .pre .2 .inFile, c .before .before .before .before .before .before .before .before .before .before .pre .0 .inOrder)
 
 plan-edge-requires : tie.Need-plan-edge-requires Inv-loop μ-loop
 plan-edge-requires c κs =

@@ -6,7 +6,7 @@ use Rattle.planning_edges.proofs.landings.passes_at.Statement.{statemen
 use Rattle.planning_edges.proofs.landings.passes_at.Tie as tie
 
 operand-at-requires : tie.Need-operand-at-requires
-operand-at-requires c κs = search needs
+operand-at-requires c κs = (search needs, c .before .before .pre .0 .inOrder)
 
 among-requires : tie.Need-among-requires
 among-requires c κs = search needs

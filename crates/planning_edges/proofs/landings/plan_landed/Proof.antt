@@ -9,7 +9,7 @@ use Rattle.planning_edges.proofs.landings.plan_landed.Statement.{statem
 use Rattle.planning_edges.proofs.landings.plan_landed.Tie as tie
 
 is-word-requires : tie.Need-is-word-requires
-is-word-requires c κs = search needs
+is-word-requires c κs = (search needs, c .before .before .before .before .before .before .pre .0 .inOrder)
 
 sub-words-from : tie.Need-sub-words-from
 sub-words-from c = search needs
@@ -18,7 +18,7 @@ add-words-from : tie.Need-add-words-from
 add-words-from c = search needs
 
 words-from-requires : tie.Need-words-from-requires
-words-from-requires c κs = search needs
+words-from-requires c κs = c .before .before .before .before .before .before .before .before .pre .0 .inOrder
 
 size-of-requires : tie.Need-size-of-requires
 size-of-requires c κs = search needs
