@@ -1,9 +1,11 @@
 // One instruction: rule 1 for its results; at a safepoint rule 2, with slots for the values on its list; rule 3.
 ghost use mathlib.Core.Path.{_≡_};
+ghost use mathlib.Core.Bool.{true};
 ghost use mathlib.Core.Option.{none, some};
 ghost use Prim.Native.Nat.{_≤_};
 ghost use Rattle.rules.specs.Lists.{keep, members};
-ghost use Rattle.rules.specs.Records.{encode, isSafepoint, recordAt, recordCount};
+ghost use Rattle.rules.specs.Records.{encode, isSafepoint, recordAt, recordCount, records};
+ghost use Rattle.rules.specs.File.{ordered};
 ghost use Rattle.graph.specs.Tables.{Given};
 ghost use Rattle.planning.specs.Operands.{Reading};
 ghost use Rattle.planning.specs.Standing.{tables};
@@ -17,8 +19,7 @@ use planning::asks::ask_all;
 use planning::runs::plan_definitions;
 use planning::runs::plan_uses;
 use planning_edges::edges::plan_edges;
-use records::kind_of;
-use records::record_at;
+use records::in_order::kind_at;
 
 // Where an instruction stands: its own place, the one behind its records, and its number.
 pub struct InstructionSpot {
@@ -29,12 +30,12 @@ pub struct InstructionSpot {
 
 // The first place from a place on, and not behind place end, where no record of a kind stands.
 pub fn run_end(s: &[u8], kind: u32, from: usize, end: usize) -> usize
-    requires { ⌜ (from ≤ end) × (end ≤ recordCount (now s)) ⌝ }
+    requires { ⌜ (from ≤ end) × (end ≤ recordCount (now s)) × (ordered 0 (records (now s)) ≡ true) ⌝ }
     ensures { λ r. ⌜ (r ≡ runEnd (now (s .entry)) kind from end) × (r ≤ end) ⌝ }
 {
     let mut i = from;
     while i < end {
-        if kind_of(record_at(s, i)) != kind {
+        if kind_at(s, i) != kind {
             return i;
         }
         i += 1;
@@ -169,7 +170,7 @@ pub fn plan_instruction(
     requires { ⌜ Reading (now s) (now spilled) × Given (now s) (now places) × HasRow (now lists) (at .number) × InstructionRecords (now s) (at .place) (at .end) × InstructionReady (now s) (at .place) (at .end) (tables (now asked) (now steps) (now sizes) p) (now numbers) ⌝ }
     ensures { λ r. ⌜ InstructionNoted (now (s .entry)) (p .pointer) (listIf (isSafepoint (encode (recordAt (now (s .entry)) (at .place)) .second)) (keep (rows (now (spilled .entry)) 0) (members (p .given) (rows (now (lists .entry)) (at .number))))) (at .place) (at .end) (tables (now (asked .entry)) (now (steps .entry)) (now (sizes .entry)) p) (now (numbers .entry)) (tables (now (asked .exit)) (now (steps .exit)) (now (sizes .exit)) r) (now (numbers .exit)) ⌝ }
 {
-    if is_safepoint(record_at(s, at.place)) {
+    if is_safepoint(s, at.place) {
         return plan_safepoint(
             s,
             places,

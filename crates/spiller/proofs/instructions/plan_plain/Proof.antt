@@ -11,10 +11,10 @@ add-run-end : tie.Need-add-run-end
 add-run-end c = search needs
 
 run-end-requires : tie.Need-run-end-requires
-run-end-requires c κs = (omega (arith, c .before .before .before .before .before .before .before .pre .2 .inside), c .before .before .before .before .before .before .before .pre .2 .inFile)
+run-end-requires c κs = (omega (arith, c .before .before .before .before .before .before .before .pre .2 .inside), c .before .before .before .before .before .before .before .pre .2 .inFile, c .before .before .before .before .before .before .before .pre .0 .inOrder)
 
 run-end-requires-2 : tie.Need-run-end-requires-2
-run-end-requires-2 c κs = (c .run-end .ensures .1, c .before .before .before .before .before .before .before .before .pre .2 .inFile)
+run-end-requires-2 c κs = (c .run-end .ensures .1, c .before .before .before .before .before .before .before .before .pre .2 .inFile, c .before .before .before .before .before .before .before .before .pre .0 .inOrder)
 
 plan-definitions-requires : tie.Need-plan-definitions-requires
 plan-definitions-requires c κs =

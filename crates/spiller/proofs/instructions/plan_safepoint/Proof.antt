@@ -10,10 +10,10 @@ add-first : tie.Need-add-first
 add-first c = omega (arith, c .before .before .before .before .before .before .before .before .before .pre .3 .inside)
 
 run-end-requires : tie.Need-run-end-requires
-run-end-requires c κs = (omega (arith, c .before .before .before .before .before .before .before .before .before .pre .3 .inside), c .before .before .before .before .before .before .before .before .before .pre .3 .inFile)
+run-end-requires c κs = (omega (arith, c .before .before .before .before .before .before .before .before .before .pre .3 .inside), c .before .before .before .before .before .before .before .before .before .pre .3 .inFile, c .before .before .before .before .before .before .before .before .before .pre .0 .inOrder)
 
 run-end-requires-2 : tie.Need-run-end-requires-2
-run-end-requires-2 c κs = (c .run-end .ensures .1, c .before .before .before .before .before .before .before .before .before .before .pre .3 .inFile)
+run-end-requires-2 c κs = (c .run-end .ensures .1, c .before .before .before .before .before .before .before .before .before .before .pre .3 .inFile, c .before .before .before .before .before .before .before .before .before .before .pre .0 .inOrder)
 
 plan-definitions-requires : tie.Need-plan-definitions-requires
 plan-definitions-requires c κs =

@@ -1,10 +1,10 @@
 -- `spiller::instructions::run_end` meets its contract.
-use borrow.Author.Needs.{needs}
-use Rattle.spiller.specs.Parted.{runEnd, run-none, run-ends, run-goes}
-use Rattle.rules.specs.Records.{kind}
-use native.Mathlib.Omega.{arith}
+use mathlib.Core.Path.{_≡_, refl, sym, _∙_}
 use Prim.Native.Nat.{_≤_, _-_}
-use mathlib.Core.Path.{_≡_, refl, sym, ap, _∙_}
+use native.Mathlib.Omega.{arith}
+use Rattle.rules.specs.Records.{kind}
+use Rattle.spiller.specs.Parted.{runEnd, run-none, run-ends, run-goes}
+use borrow.Author.Needs.{needs}
 use Rattle.spiller.proofs.instructions.run_end.Statement.{statement}
 use Rattle.spiller.proofs.instructions.run_end.Tie as tie
 
@@ -17,14 +17,11 @@ abbrev μ-loop : tie.MeasureT-loop
 loop-holds : tie.Need-loop-holds Inv-loop μ-loop
 loop-holds c = (search needs, search needs, refl)
 
-record-at-requires : tie.Need-record-at-requires Inv-loop μ-loop
-record-at-requires c κs = search needs
-
-kind-of-requires : tie.Need-kind-of-requires Inv-loop μ-loop
-kind-of-requires c κs = search needs
+kind-at-requires : tie.Need-kind-at-requires Inv-loop μ-loop
+kind-at-requires c κs = search needs
 
 returns : tie.Need-returns Inv-loop μ-loop
-returns c = (run-ends (c .before .before .before .before .before .before .args .s .now) (c .before .before .before .before .before .before .args .kind) (c .before .before .before .before .loop .i) (c .before .before .before .before .before .before .args .end) (c .before .before .before .loop-test .taken) (c .before .before .before .before .before .before .pre .1) (λ h. c .if1 .taken (c .before .kind-of .ensures .0 ∙ ap kind (c .before .before .record-at .ensures) ∙ h)) ∙ c .before .before .before .before .loop .inv .2, c .before .before .before .before .loop .inv .1)
+returns c = (run-ends (c .before .before .before .before .before .args .s .now) (c .before .before .before .before .before .args .kind) (c .before .before .before .loop .i) (c .before .before .before .before .before .args .end) (c .before .before .loop-test .taken) (c .before .before .before .before .before .pre .1) (λ h. c .if1 .taken (c .before .kind-at .ensures .0 ∙ h)) ∙ c .before .before .before .loop .inv .2, c .before .before .before .loop .inv .1)
 
 add-i : tie.Need-add-i Inv-loop μ-loop
 add-i c = search needs
@@ -33,7 +30,7 @@ loop-less : tie.Need-loop-less Inv-loop μ-loop
 loop-less c = search needs
 
 loop-again : tie.Need-loop-again Inv-loop μ-loop
-loop-again c = (search needs, search needs, run-goes (c .before .before .before .before .before .before .args .s .now) (c .before .before .before .before .before .before .args .kind) (c .before .before .before .before .loop .i) (c .before .before .before .before .before .before .args .end) (c .before .before .before .loop-test .taken) (c .before .before .before .before .before .before .pre .1) (sym (c .before .kind-of .ensures .0 ∙ ap kind (c .before .before .record-at .ensures)) ∙ c .if1 .left) ∙ c .before .before .before .before .loop .inv .2)
+loop-again c = (search needs, search needs, run-goes (c .before .before .before .before .before .args .s .now) (c .before .before .before .before .before .args .kind) (c .before .before .before .loop .i) (c .before .before .before .before .before .args .end) (c .before .before .loop-test .taken) (c .before .before .before .before .before .pre .1) (sym (c .before .kind-at .ensures .0) ∙ c .if1 .left) ∙ c .before .before .before .loop .inv .2)
 
 returns-2 : tie.Need-returns-2 Inv-loop μ-loop
 returns-2 c = (run-none (c .before .before .before .args .s .now) (c .before .before .before .args .kind) (c .before .loop .i) (c .before .before .before .args .end) (omega arith) ∙ c .before .loop .inv .2, c .before .loop .inv .1)
@@ -45,8 +42,7 @@ run-end-spec =
     Inv-loop
     μ-loop
     loop-holds
-    record-at-requires
-    kind-of-requires
+    kind-at-requires
     returns
     add-i
     loop-less
