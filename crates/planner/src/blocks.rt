@@ -1,9 +1,10 @@
 // One block: slots for what is live out of it, its instructions, the last one first, and its parameters.
 ghost use mathlib.Core.Path.{_≡_};
+ghost use mathlib.Core.Bool.{true};
 ghost use Prim.Native.Nat.{_+_, _-_, _<_, _≤_};
 ghost use lib.ListN.{length, getD};
-ghost use Rattle.rules.specs.Records.{kind, recordAt, recordCount};
-ghost use Rattle.rules.specs.File.{functionIn};
+ghost use Rattle.rules.specs.Records.{kind, recordAt, recordCount, records};
+ghost use Rattle.rules.specs.File.{functionIn, ordered};
 ghost use Rattle.graph.specs.Tables.{Given};
 ghost use Rattle.planning.specs.Operands.{Reading};
 ghost use Rattle.planning.specs.Standing.{tables};
@@ -17,8 +18,7 @@ use listing::blocks::count_instructions;
 use planning::Progress;
 use planning::asks::ask_all;
 use planning::runs::plan_definitions;
-use records::kind_of;
-use records::record_at;
+use records::in_order::kind_at;
 use spiller::instructions::InstructionSpot;
 use spiller::instructions::plan_instruction;
 use spiller::instructions::run_end;
@@ -34,13 +34,13 @@ pub struct BlockSpot {
 
 // The last instruction from place front on and before place end; one stands at place front.
 fn last_instruction(s: &[u8], front: usize, end: usize) -> usize
-    requires { ⌜ (front < end) × (end ≤ recordCount (now s)) × (kind (recordAt (now s) front) ≡ 4) ⌝ }
+    requires { ⌜ (front < end) × (end ≤ recordCount (now s)) × (kind (recordAt (now s) front) ≡ 4) × (ordered 0 (records (now s)) ≡ true) ⌝ }
     ensures { λ r. ⌜ LastBefore (now (s .entry)) front end r ⌝ }
 {
     let mut i = end;
     while i > front {
         i -= 1;
-        if kind_of(record_at(s, i)) == 4 {
+        if kind_at(s, i) == 4 {
             return i;
         }
     }

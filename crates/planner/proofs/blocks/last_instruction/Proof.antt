@@ -1,12 +1,11 @@
 -- `planner::blocks::last_instruction` meets its contract.
-use borrow.Author.Needs.{needs}
-use Rattle.planner.specs.Backward.{last-start, last-here, last-not, last-none}
-use Rattle.listing.specs.Stepping.{headsFrom}
-use Rattle.rules.specs.Records.{kind}
-use native.Mathlib.Omega.{arith}
-use Prim.Native.Nat.{_≤_, ℕ}
+use mathlib.Core.Path.{_≡_, sym, subst, _∙_}
 use mathlib.Core.List.{[]}
-use mathlib.Core.Path.{_≡_, sym, ap, subst, _∙_}
+use Prim.Native.Nat.{_≤_, ℕ}
+use native.Mathlib.Omega.{arith}
+use Rattle.listing.specs.Stepping.{headsFrom}
+use Rattle.planner.specs.Backward.{last-start, last-here, last-not, last-none}
+use borrow.Author.Needs.{needs}
 use Rattle.planner.proofs.blocks.last_instruction.Statement.{statement}
 use Rattle.planner.proofs.blocks.last_instruction.Tie as tie
 
@@ -22,20 +21,17 @@ loop-holds c = (omega (arith, c .before .pre .0), omega arith, last-start (c .be
 sub-i : tie.Need-sub-i Inv-loop μ-loop
 sub-i c = search needs
 
-record-at-requires : tie.Need-record-at-requires Inv-loop μ-loop
-record-at-requires c κs = search needs
-
-kind-of-requires : tie.Need-kind-of-requires Inv-loop μ-loop
-kind-of-requires c κs = search needs
+kind-at-requires : tie.Need-kind-at-requires Inv-loop μ-loop
+kind-at-requires c κs = search needs
 
 returns : tie.Need-returns Inv-loop μ-loop
-returns c = last-here (c .before .before .before .before .before .before .args .s .now) (c .before .before .before .before .before .before .args .front) (c .before .before .before .before .before .before .args .end) (c .before .before .before .before .before .before .pre .1) (c .before .before .before .before .loop .i) (c .before .before .before .loop-test .taken) (c .before .before .before .before .loop .inv .1) (c .before .before .before .before .loop .inv .2) (sym (c .before .kind-of .ensures .0 ∙ ap kind (c .before .before .record-at .ensures)) ∙ c .if1 .taken)
+returns c = last-here (c .before .before .before .before .before .args .s .now) (c .before .before .before .before .before .args .front) (c .before .before .before .before .before .args .end) (c .before .before .before .before .before .pre .1) (c .before .before .before .loop .i) (c .before .before .loop-test .taken) (c .before .before .before .loop .inv .1) (c .before .before .before .loop .inv .2) (sym (c .before .kind-at .ensures .0) ∙ c .if1 .taken)
 
 loop-less : tie.Need-loop-less Inv-loop μ-loop
 loop-less c = search needs
 
 loop-again : tie.Need-loop-again Inv-loop μ-loop
-loop-again c = (omega (arith, c .before .before .before .loop-test .taken), omega (arith, c .before .before .before .before .loop .inv .1), last-not (c .before .before .before .before .before .before .args .s .now) (c .before .before .before .before .before .before .args .front) (c .before .before .before .before .before .before .args .end) (c .before .before .before .before .before .before .pre .1) (c .before .before .before .before .loop .i) (c .before .before .before .loop-test .taken) (c .before .before .before .before .loop .inv .1) (c .before .before .before .before .loop .inv .2) (λ h. c .if1 .left (c .before .kind-of .ensures .0 ∙ ap kind (c .before .before .record-at .ensures) ∙ h)))
+loop-again c = (omega (arith, c .before .before .loop-test .taken), omega (arith, c .before .before .before .loop .inv .1), last-not (c .before .before .before .before .before .args .s .now) (c .before .before .before .before .before .args .front) (c .before .before .before .before .before .args .end) (c .before .before .before .before .before .pre .1) (c .before .before .before .loop .i) (c .before .before .loop-test .taken) (c .before .before .before .loop .inv .1) (c .before .before .before .loop .inv .2) (λ h. c .if1 .left (c .before .kind-at .ensures .0 ∙ h)))
 
 returns-2 : tie.Need-returns-2 Inv-loop μ-loop
 returns-2 c =
@@ -50,8 +46,7 @@ last-instruction-spec =
     μ-loop
     loop-holds
     sub-i
-    record-at-requires
-    kind-of-requires
+    kind-at-requires
     returns
     loop-less
     loop-again

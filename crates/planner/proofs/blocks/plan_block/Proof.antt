@@ -27,10 +27,10 @@ shared-slice-read-end : tie.Need-shared-slice-read-end
 shared-slice-read-end c = omega (arith, c .before .before .before .before .before .before .before .before .before .before .before .pre .2 .inFile, places-long (c .before .before .before .before .before .before .before .before .before .before .before .args .s .now) (c .before .before .before .before .before .before .before .before .before .before .before .args .places .now) (c .before .before .before .before .before .before .before .before .before .before .before .pre .1))
 
 run-end-requires : tie.Need-run-end-requires
-run-end-requires c κs = search needs
+run-end-requires c κs = (search needs, search needs, c .before .before .before .before .before .before .before .before .before .before .before .pre .0 .inOrder)
 
 count-instructions-requires : tie.Need-count-instructions-requires
-count-instructions-requires c κs = search needs
+count-instructions-requires c κs = (search needs, search needs, c .before .before .before .before .before .before .before .before .before .before .before .before .pre .0 .inOrder)
 
 add-behind : tie.Need-add-behind
 add-behind c = omega (arith, c .before .count-instructions .ensures, behind-fits (c .before .before .before .before .before .before .before .before .before .before .before .before .before .before .args .s .now) (c .before .before .before .before .before .before .before .before .before .before .before .before .before .before .args .lists .now) (c .before .before .before .before .before .before .before .before .before .before .before .before .before .before .args .outs .now) (c .before .before .before .before .before .before .before .before .before .before .before .before .before .before .args .spilled .now) (c .before .before .before .before .before .before .before .before .before .before .before .before .before .before .args .at .block) (c .before .before .before .before .before .before .before .before .before .before .before .before .before .before .args .at .first) _ _ (c .before .before .before .before .before .before .before .before .before .before .before .before .before .before .pre .2) (c .before .before .before .before .before .before .before .before .before .before .before .before .before .before .pre .0) (c .before .before .run-end .result) (c .before .before .run-end .ensures .0))

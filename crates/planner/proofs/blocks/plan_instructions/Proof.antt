@@ -17,7 +17,7 @@ loop-holds : tie.Need-loop-holds Inv-loop μ-loop
 loop-holds c = back-start (c .before .before .before .before .before .before .before .before .args .s .now) (c .before .before .before .before .before .before .before .before .args .lists .now) (rows (c .before .before .before .before .before .before .before .before .args .spilled .now) 0) (c .before .before .before .before .before .before .before .before .args .block .start) (c .before .before .before .before .before .before .before .before .args .block .front) (c .before .before .before .before .before .before .before .before .args .block .end) (c .before .before .before .before .before .before .before .before .args .block .behind) (c .before .before .before .before .before .before .before .before .pre .2) (c .before .before .before .before .before .before .before .before .args .p .pointer) (tables (c .before .before .before .before .before .before .before .before .args .asked .now) (c .before .before .before .before .before .before .before .before .args .steps .now) (c .before .before .before .before .before .before .before .before .args .sizes .now) (c .before .before .before .before .before .before .before .before .args .p)) (c .before .before .before .before .before .before .before .before .args .numbers .now)
 
 last-instruction-requires : tie.Need-last-instruction-requires Inv-loop μ-loop
-last-instruction-requires c κs = (c .if1 .taken, omega (arith, c .before .before .loop .inv .high, c .before .before .before .before .before .before .before .before .before .before .before .pre .2 .block .inside), first-there (c .before .before .before .before .before .before .before .before .before .before .before .args .s .now) (c .before .before .before .before .before .before .before .before .before .before .before .args .lists .now) (rows (c .before .before .before .before .before .before .before .before .before .before .before .args .spilled .now) 0) (c .before .before .before .before .before .before .before .before .before .before .before .args .block .start) (c .before .before .before .before .before .before .before .before .before .before .before .args .block .front) (c .before .before .before .before .before .before .before .before .before .before .before .args .block .end) (c .before .before .before .before .before .before .before .before .before .before .before .args .block .behind) (c .before .before .before .before .before .before .before .before .before .before .before .pre .2) (c .before .before .before .before .before .before .before .before .before .before .before .args .p .pointer) (tables (c .before .before .before .before .before .before .before .before .before .before .before .args .asked .now) (c .before .before .before .before .before .before .before .before .before .before .before .args .steps .now) (c .before .before .before .before .before .before .before .before .before .before .before .args .sizes .now) (c .before .before .before .before .before .before .before .before .before .before .before .args .p)) (c .before .before .before .before .before .before .before .before .before .before .before .args .numbers .now) (c .before .before .loop .i) (c .before .before .loop .number) (c .if1 .taken) (tables (c .before .before .loop .asked) (c .before .before .loop .steps) (c .before .before .loop .sizes) (c .before .before .loop .done)) (c .before .before .loop .numbers) (c .before .before .loop .inv))
+last-instruction-requires c κs = (c .if1 .taken, omega (arith, c .before .before .loop .inv .high, c .before .before .before .before .before .before .before .before .before .before .before .pre .2 .block .inside), first-there (c .before .before .before .before .before .before .before .before .before .before .before .args .s .now) (c .before .before .before .before .before .before .before .before .before .before .before .args .lists .now) (rows (c .before .before .before .before .before .before .before .before .before .before .before .args .spilled .now) 0) (c .before .before .before .before .before .before .before .before .before .before .before .args .block .start) (c .before .before .before .before .before .before .before .before .before .before .before .args .block .front) (c .before .before .before .before .before .before .before .before .before .before .before .args .block .end) (c .before .before .before .before .before .before .before .before .before .before .before .args .block .behind) (c .before .before .before .before .before .before .before .before .before .before .before .pre .2) (c .before .before .before .before .before .before .before .before .before .before .before .args .p .pointer) (tables (c .before .before .before .before .before .before .before .before .before .before .before .args .asked .now) (c .before .before .before .before .before .before .before .before .before .before .before .args .steps .now) (c .before .before .before .before .before .before .before .before .before .before .before .args .sizes .now) (c .before .before .before .before .before .before .before .before .before .before .before .args .p)) (c .before .before .before .before .before .before .before .before .before .before .before .args .numbers .now) (c .before .before .loop .i) (c .before .before .loop .number) (c .if1 .taken) (tables (c .before .before .loop .asked) (c .before .before .loop .steps) (c .before .before .loop .sizes) (c .before .before .loop .done)) (c .before .before .loop .numbers) (c .before .before .loop .inv), c .before .before .before .before .before .before .before .before .before .before .before .pre .0 .inOrder)
 
 sub-number : tie.Need-sub-number Inv-loop μ-loop
 sub-number c = omega (arith, back-number (c .before .before .before .before .before .before .before .before .before .before .before .before .args .s .now) (c .before .before .before .before .before .before .before .before .before .before .before .before .args .lists .now) (rows (c .before .before .before .before .before .before .before .before .before .before .before .before .args .spilled .now) 0) (c .before .before .before .before .before .before .before .before .before .before .before .before .args .block .start) (c .before .before .before .before .before .before .before .before .before .before .before .before .args .block .front) (c .before .before .before .before .before .before .before .before .before .before .before .before .args .block .end) (c .before .before .before .before .before .before .before .before .before .before .before .before .args .block .behind) (c .before .before .before .before .before .before .before .before .before .before .before .before .pre .2) (c .before .before .before .before .before .before .before .before .before .before .before .before .args .p .pointer) (tables (c .before .before .before .before .before .before .before .before .before .before .before .before .args .asked .now) (c .before .before .before .before .before .before .before .before .before .before .before .before .args .steps .now) (c .before .before .before .before .before .before .before .before .before .before .before .before .args .sizes .now) (c .before .before .before .before .before .before .before .before .before .before .before .before .args .p)) (c .before .before .before .before .before .before .before .before .before .before .before .before .args .numbers .now) (c .before .before .before .loop .i) (c .before .before .before .loop .number) (c .before .if1 .taken) (tables (c .before .before .before .loop .asked) (c .before .before .before .loop .steps) (c .before .before .before .loop .sizes) (c .before .before .before .loop .done)) (c .before .before .before .loop .numbers) (c .before .before .before .loop .inv) (c .last-instruction .result) (c .last-instruction .ensures))

@@ -3,7 +3,9 @@ use borrow.Author.Needs.{needs}
 use Rattle.planner.specs.FirstNumbers.{NumberedTo, numbered-start, numbered-more, next-first, next-low}
 use Rattle.listing.specs.Crossings.{crossingsBelow}
 use Rattle.graph.specs.ByTable.{places-long, end-le, start-less}
-use Rattle.rules.specs.File.{functionIn}
+use Rattle.rules.specs.File.{functionIn, ordered}
+use Rattle.rules.specs.Records.{records}
+use Rattle.lists.specs.Tests.{is-true}
 use lib.ListN.{length, getD}
 use native.Mathlib.Omega.{arith}
 use Prim.Native.Nat.{_≤_, _-_}
@@ -45,7 +47,7 @@ shared-slice-read-end : tie.Need-shared-slice-read-end Inv-loop μ-loop
 shared-slice-read-end c = omega (arith, c .before .before .loop-test .taken, c .before .before .before .before .before .before .before .pre .1, places-long (c .before .before .before .before .before .before .before .args .s .now) (c .before .before .before .before .before .before .before .args .places .now) (c .before .before .before .before .before .before .before .pre .0))
 
 count-instructions-requires : tie.Need-count-instructions-requires Inv-loop μ-loop
-count-instructions-requires c κs = (omega (arith, end-le (c .before .before .before .before .before .before .before .args .s .now) (c .before .before .before .before .before .before .before .args .places .now) (c .before .before .before .before .before .before .before .pre .0) (c .before .before .before .loop .b) (omega (arith, c .before .before .loop-test .taken, c .before .before .before .before .before .before .before .pre .1)), start-less (c .before .before .before .before .before .before .before .args .s .now) (c .before .before .before .before .before .before .before .args .places .now) (c .before .before .before .before .before .before .before .pre .0) (c .before .before .before .loop .b) (omega (arith, c .before .before .loop-test .taken, c .before .before .before .before .before .before .before .pre .1))), omega (arith, end-le (c .before .before .before .before .before .before .before .args .s .now) (c .before .before .before .before .before .before .before .args .places .now) (c .before .before .before .before .before .before .before .pre .0) (c .before .before .before .loop .b) (omega (arith, c .before .before .loop-test .taken, c .before .before .before .before .before .before .before .pre .1)), start-less (c .before .before .before .before .before .before .before .args .s .now) (c .before .before .before .before .before .before .before .args .places .now) (c .before .before .before .before .before .before .before .pre .0) (c .before .before .before .loop .b) (omega (arith, c .before .before .loop-test .taken, c .before .before .before .before .before .before .before .pre .1))))
+count-instructions-requires c κs = (omega (arith, end-le (c .before .before .before .before .before .before .before .args .s .now) (c .before .before .before .before .before .before .before .args .places .now) (c .before .before .before .before .before .before .before .pre .0) (c .before .before .before .loop .b) (omega (arith, c .before .before .loop-test .taken, c .before .before .before .before .before .before .before .pre .1)), start-less (c .before .before .before .before .before .before .before .args .s .now) (c .before .before .before .before .before .before .before .args .places .now) (c .before .before .before .before .before .before .before .pre .0) (c .before .before .before .loop .b) (omega (arith, c .before .before .loop-test .taken, c .before .before .before .before .before .before .before .pre .1))), omega (arith, end-le (c .before .before .before .before .before .before .before .args .s .now) (c .before .before .before .before .before .before .before .args .places .now) (c .before .before .before .before .before .before .before .pre .0) (c .before .before .before .loop .b) (omega (arith, c .before .before .loop-test .taken, c .before .before .before .before .before .before .before .pre .1)), start-less (c .before .before .before .before .before .before .before .args .s .now) (c .before .before .before .before .before .before .before .args .places .now) (c .before .before .before .before .before .before .before .pre .0) (c .before .before .before .loop .b) (omega (arith, c .before .before .loop-test .taken, c .before .before .before .before .before .before .before .pre .1))), is-true (ordered 0 (records (c .before .before .before .before .before .before .before .args .s .now))) (c .before .before .before .before .before .before .before .pre .0 .inOrder))
 
 add-first : tie.Need-add-first Inv-loop μ-loop
 add-first c = omega (arith, next-low (c .before .before .before .before .before .before .before .before .args .s .now) (c .before .before .before .before .before .before .before .before .args .places .now) (c .before .before .before .before .before .before .before .before .pre .0) (c .before .before .before .before .loop .b) (omega (arith, c .before .before .before .loop-test .taken, c .before .before .before .before .before .before .before .before .pre .1)) (c .before .before .before .before .loop .first) (c .count-instructions .result) (c .before .before .before .before .loop .inv .1) (c .count-instructions .ensures) (c .before .before .before .before .loop .inv .2), end-le (c .before .before .before .before .before .before .before .before .args .s .now) (c .before .before .before .before .before .before .before .before .args .places .now) (c .before .before .before .before .before .before .before .before .pre .0) (c .before .before .before .before .loop .b) (omega (arith, c .before .before .before .loop-test .taken, c .before .before .before .before .before .before .before .before .pre .1)), start-less (c .before .before .before .before .before .before .before .before .args .s .now) (c .before .before .before .before .before .before .before .before .args .places .now) (c .before .before .before .before .before .before .before .before .pre .0) (c .before .before .before .before .loop .b) (omega (arith, c .before .before .before .loop-test .taken, c .before .before .before .before .before .before .before .before .pre .1)))
