@@ -38,7 +38,8 @@ terminator-back false false = refl
 named-back : (k : ℕ) (c : ℕ → Record) → ((x : ℕ) → T (eqb (kind (c x)) k)) → ((x : ℕ) → encode (c x) .second ≡ x) → (xs : List ℕ) → named k (map c xs) ≡ xs
 named-back k c h w xs = ap (map (λ (x : Words). x .second)) (ofKind-map k c h xs) ∙ map-back (λ (x : Words). x .second) (λ x. encode (c x)) w xs
 
-edgeArgument-back : (x : EdgeArgument) → edgeArgument (encode (record′.EdgeArgument x) .second) (encode (record′.EdgeArgument x) .third) ≡ x
+-- an argument is read back from its words
+pub edgeArgument-back : (x : EdgeArgument) → edgeArgument (encode (record′.EdgeArgument x) .second) (encode (record′.EdgeArgument x) .third) ≡ x
 edgeArgument-back (passes.Value _) = refl
 edgeArgument-back (passes.Returned _) = refl
 edgeArgument-back (passes.Exception _) = refl

@@ -144,8 +144,12 @@ put-front [] t h = refl
 put-front (b ∷ bs) [] h = absurd (omega arith)
 put-front (b ∷ bs) (x ∷ t) h = put-behind 0 b bs t ∙ ap (λ u. b ∷ u) (put-front bs t (omega arith))
 
--- four words put one behind the other are a record put at the front
-pub put-words : (r : Record) (w : Words) (t : List ℕ) → w ≡ encode r → recordBytes ≤ length t
+-- the bytes of four words
+abbrev pub bytesOfWords : Words → List ℕ
+bytesOfWords w = concatMap bytesOfWord (w .kind ∷ w .second ∷ w .third ∷ w .fourth ∷ [])
+
+-- four words put one behind the other fill the front
+pub put-words : (w : Words) (t : List ℕ) → recordBytes ≤ length t
     → putFrom 12 (bytesOfWord (w .fourth)) (putFrom 8 (bytesOfWord (w .third)) (putFrom 4 (bytesOfWord (w .second)) (putFrom 0 (bytesOfWord (w .kind)) t)))
-    ≡ bytesOfRecord r ++ drop recordBytes t
-put-words r w t e h = ap (λ (x : Words). putFrom 0 (concatMap bytesOfWord (x .kind ∷ x .second ∷ x .third ∷ x .fourth ∷ [])) t) e ∙ put-front (bytesOfRecord r) t h
+    ≡ bytesOfWords w ++ drop recordBytes t
+put-words w t h = put-front (bytesOfWords w) t h

@@ -8,7 +8,7 @@ ghost use mathlib.Core.List.{_++_};
 ghost use Rattle.rules.specs.Limits.{recordBytes};
 ghost use Rattle.rules.specs.Lists.{has};
 ghost use Rattle.rules.specs.Records.{wordAt, slotSizes, log2, edgeArgument, bit, words as wordsAre, encode, kind, decode, recordAt, bytesOfWord, bytesOfRecord};
-ghost use Rattle.records.specs.Writing.{putFrom};
+ghost use Rattle.records.specs.Writing.{putFrom, bytesOfWords};
 ghost use Rattle.rules.specs.declared.Record.the-variants.{Outside, EdgeArgument as RecordOfArgument};
 use rules::EdgeArgument;
 use rules::RECORD_BYTES;
@@ -274,14 +274,21 @@ fn put_word(out: &mut [u8], i: usize, w: u32)
     out[i + 3] = low_byte(w / 16777216);
 }
 
+// Four words put at the front; what lies behind them stays.
+pub fn put_words(out: &mut [u8], w: Words)
+    requires { ⌜ recordBytes ≤ length (now out) ⌝ }
+    ensures { λ x. ⌜ now (out .exit) ≡ bytesOfWords w ++ drop recordBytes (now (out .entry)) ⌝ }
+{
+    put_word(out, 0, w.kind);
+    put_word(out, 4, w.second);
+    put_word(out, 8, w.third);
+    put_word(out, 12, w.fourth);
+}
+
 // A record put at the front; what lies behind it stays.
 pub fn put_record(out: &mut [u8], r: Record)
     requires { ⌜ recordBytes ≤ length (now out) ⌝ }
     ensures { λ x. ⌜ now (out .exit) ≡ bytesOfRecord r ++ drop recordBytes (now (out .entry)) ⌝ }
 {
-    let w = words_of(r);
-    put_word(out, 0, w.kind);
-    put_word(out, 4, w.second);
-    put_word(out, 8, w.third);
-    put_word(out, 12, w.fourth);
+    put_words(out, words_of(r));
 }

@@ -1,9 +1,10 @@
 -- `records::put_record` meets its contract.
-use Rattle.records.specs.Writing.{putFrom, put-words}
-use Rattle.rules.specs.Records.{bytesOfWord}
-use Prim.Native.Nat.{ℕ}
-use mathlib.Core.List.{List}
 use mathlib.Core.Path.{ap, _∙_}
+use mathlib.Core.List.{_++_}
+use lib.ListN.{drop}
+use Rattle.rules.specs.declared.Words.{Words}
+use Rattle.rules.specs.Limits.{recordBytes}
+use Rattle.records.specs.Writing.{bytesOfWords}
 use borrow.Author.Needs.{needs}
 use Rattle.records.proofs.put_record.Statement.{statement}
 use Rattle.records.proofs.put_record.Tie as tie
@@ -11,38 +12,14 @@ use Rattle.records.proofs.put_record.Tie as tie
 words-of-requires : tie.Need-words-of-requires
 words-of-requires c κs = search needs
 
-put-word-requires : tie.Need-put-word-requires
-put-word-requires c κs = search needs
-
-put-word-requires-2 : tie.Need-put-word-requires-2
-put-word-requires-2 c κs = search needs
-
-put-word-requires-3 : tie.Need-put-word-requires-3
-put-word-requires-3 c κs = search needs
-
-put-word-requires-4 : tie.Need-put-word-requires-4
-put-word-requires-4 c κs = search needs
+put-words-requires : tie.Need-put-words-requires
+put-words-requires c κs = search needs
 
 same-length : tie.Need-same-length
 same-length c = search needs
 
 returns : tie.Need-returns
-returns c =
-    let w = c .before .before .before .before .before .before .before .before .before .before .before .before .before .before .before .before .words-of .result in
-    c .before .before .put-word4 .ensures
-    ∙ ap (λ (t : List ℕ). putFrom 12 (bytesOfWord (w .fourth)) t)
-    (c .before .before .before .before .before .before .put-word3 .ensures ∙ ap (λ (t : List ℕ). putFrom 8 (bytesOfWord (w .third)) t)
-    (c .before .before .before .before .before .before .before .before .before .before .put-word2 .ensures ∙ ap (λ (t : List ℕ). putFrom 4 (bytesOfWord (w .second)) t) (c .before .before .before .before .before .before .before .before .before .before .before .before .before .before .put-word .ensures)))
-    ∙ put-words (c .before .before .before .before .before .before .before .before .before .before .before .before .before .before .before .before .before .before .args .r) w (c .before .before .before .before .before .before .before .before .before .before .before .before .before .before .before .before .before .before .args .out .now) (c .before .before .before .before .before .before .before .before .before .before .before .before .before .before .before .before .words-of .ensures) (c .before .before .before .before .before .before .before .before .before .before .before .before .before .before .before .before .before .before .pre)
+returns c = c .before .before .put-words .ensures ∙ ap (λ (w : Words). bytesOfWords w ++ drop recordBytes (c .before .before .before .before .before .before .args .out .now)) (c .before .before .before .words-of .ensures)
 
 pub put-record-spec : {M : Type 1} → statement M
-put-record-spec =
-    tie.close
-    (tie.spec
-    words-of-requires
-    put-word-requires
-    put-word-requires-2
-    put-word-requires-3
-    put-word-requires-4
-    same-length
-    returns)
+put-record-spec = tie.close (tie.spec words-of-requires put-words-requires same-length returns)
