@@ -1,18 +1,19 @@
 // One block: its record, parameters and their stores, its instructions, and the landings behind it; or the block copied.
 ghost use mathlib.Core.Path.{_≡_};
+ghost use mathlib.Core.Bool.{true};
 ghost use Prim.Native.Nat.{_+_, _*_, _<_, _≤_};
 ghost use lib.ListN.{length};
 ghost use Rattle.rules.specs.Limits.{rowWords};
-ghost use Rattle.rules.specs.Records.{kind, recordAt, recordCount};
+ghost use Rattle.rules.specs.Records.{kind, recordAt, recordCount, records};
+ghost use Rattle.rules.specs.File.{ordered};
 ghost use Rattle.rows.specs.Rows.{rows, rowValues, HasRow};
 ghost use Rattle.writing.specs.Parts.{Readable};
 ghost use Rattle.writing.specs.Places.{fromTo};
 ghost use Rattle.writing.specs.Wrote.{room, Wrote};
 ghost use Rattle.layout.specs.BlockRuns.{numberAt, instructionIf, instructionPartAt, landingPartAt, headRun, blockRun, copyAt};
-use records::kind_of;
-use records::record_at;
+use records::in_order::kind_at;
 use writing::parts::Part;
-use writing::put::put;
+use writing::put::put_copy;
 use writing::run::next_place;
 use writing::run::put_parts;
 use writing_edges::edges::EdgePart;
@@ -35,7 +36,7 @@ fn put_instruction_at(
     requires { ⌜ Readable (now s) (now numbers) × (p < end) × (end ≤ recordCount (now s)) × (kind (recordAt (now s) p) ≡ 4 → HasRow (now lists) i) × (values ≤ rowValues) × (room (instructionIf (now s) (now numbers) (now slots) values (rows (now lists) i) end p) ≤ length (now out)) ⌝ }
     ensures { λ r. ⌜ Wrote (now (out .entry)) (instructionIf (now (s .entry)) (now (numbers .entry)) (now (slots .entry)) values (rows (now (lists .entry)) i) end p) r (now (out .exit)) ⌝ }
 {
-    if kind_of(record_at(s, p)) == 4 {
+    if kind_at(s, p) == 4 {
         let next = next_place(s, 4, p + 1, end);
         return put_instruction(s, numbers, slots, lists, values, i, p, next, out);
     }
@@ -44,10 +45,10 @@ fn put_instruction_at(
 
 // The number of the instruction at or behind the next place, from that at or behind place p.
 fn number_behind(s: &[u8], p: usize, number: usize) -> usize
-    requires { ⌜ (p < recordCount (now s)) × (number ≡ numberAt (now s) p) ⌝ }
+    requires { ⌜ (p < recordCount (now s)) × (number ≡ numberAt (now s) p) × (ordered 0 (records (now s)) ≡ true) ⌝ }
     ensures { λ r. ⌜ r ≡ numberAt (now (s .entry)) (p + 1) ⌝ }
 {
-    if kind_of(record_at(s, p)) == 4 {
+    if kind_at(s, p) == 4 {
         return number + 1;
     }
     number
@@ -102,7 +103,7 @@ fn put_landings_at(
     requires { ⌜ Readable (now s) (now numbers) × (p < end) × (end ≤ recordCount (now s)) × (room (landingPartAt (now s) (now numbers) (now slots) end p) ≤ length (now out)) ⌝ }
     ensures { λ r. ⌜ Wrote (now (out .entry)) (landingPartAt (now (s .entry)) (now (numbers .entry)) (now (slots .entry)) end p) r (now (out .exit)) ⌝ }
 {
-    if kind_of(record_at(s, p)) == 4 {
+    if kind_at(s, p) == 4 {
         let next = next_place(s, 4, p + 1, end);
         return put_edges(s, numbers, slots, EdgePart::Landing, p + 1, next, out);
     }
@@ -137,7 +138,7 @@ fn put_head(s: &[u8], numbers: &[u32], slots: &[u32], p: usize, end: usize, out:
     ensures { λ r. ⌜ Wrote (now (out .entry)) (headRun (now (s .entry)) (now (numbers .entry)) (now (slots .entry)) p end) r (now (out .exit)) ⌝ }
 {
     let from = p + 1;
-    let a = put(out, record_at(s, p));
+    let a = put_copy(s, p, out);
     let b = put_parts(
         s,
         numbers,
@@ -188,13 +189,13 @@ pub fn put_block(
 
 // The records from a place on and before place end, as they are.
 pub fn copy_records(s: &[u8], from: usize, end: usize, out: &mut [u8]) -> usize
-    requires { ⌜ (from ≤ end) × (end ≤ recordCount (now s)) × (room (fromTo (copyAt (now s)) from end) ≤ length (now out)) ⌝ }
+    requires { ⌜ (from ≤ end) × (end ≤ recordCount (now s)) × (room (fromTo (copyAt (now s)) from end) ≤ length (now out)) × (ordered 0 (records (now s)) ≡ true) ⌝ }
     ensures { λ r. ⌜ Wrote (now (out .entry)) (fromTo (copyAt (now (s .entry))) from end) r (now (out .exit)) ⌝ }
 {
     let mut at = 0;
     let mut i = from;
     while i < end {
-        let n = put(&mut out[at..], record_at(s, i));
+        let n = put_copy(s, i, &mut out[at..]);
         at += n;
         i += 1;
     }

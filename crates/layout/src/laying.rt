@@ -1,8 +1,10 @@
 // The blocks of the file, one behind the other: each reachable one with its landings behind it, another as it is.
 ghost use mathlib.Core.Path.{_≡_};
+ghost use mathlib.Core.Bool.{true};
 ghost use Prim.Native.Nat.{_+_, _<_, _≤_};
 ghost use lib.ListN.{length, getD};
-ghost use Rattle.rules.specs.File.{functionIn};
+ghost use Rattle.rules.specs.Records.{records};
+ghost use Rattle.rules.specs.File.{ordered, functionIn};
 ghost use Rattle.rows.specs.Rows.{rows};
 ghost use Rattle.graph.specs.Tables.{Given};
 ghost use Rattle.writing.specs.Places.{fromTo};
@@ -39,7 +41,7 @@ fn put_laid(
 
 // The number of the next block's first instruction, from that of block b's.
 fn next_number(s: &[u8], places: &[usize], b: usize, first: usize) -> usize
-    requires { ⌜ Given (now s) (now places) × (b < length (functionIn (now s) .blocks)) × (first ≡ numberAt (now s) (getD (now places) b 0)) ⌝ }
+    requires { ⌜ Given (now s) (now places) × (b < length (functionIn (now s) .blocks)) × (first ≡ numberAt (now s) (getD (now places) b 0)) × (ordered 0 (records (now s)) ≡ true) ⌝ }
     ensures { λ r. ⌜ r ≡ numberAt (now (s .entry)) (getD (now (places .entry)) (b + 1) 0) ⌝ }
 {
     first + count_instructions(s, places[b] + 1, places[b + 1])

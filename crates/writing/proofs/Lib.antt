@@ -1,2 +1,3 @@
 pub mod Tags
+pub mod Asked
 pub mod Running

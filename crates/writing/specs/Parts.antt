@@ -1,7 +1,7 @@
 -- What is written for one record of the file, by the part of the output that is being written.
 use Prim.Native.Nat.{ℕ, zero, suc, _≤_}
 use mathlib.Core.Path.{_≡_}
-use mathlib.Core.Bool.{true, false}
+use mathlib.Core.Bool.{Bool, true, false}
 use mathlib.Core.List.{List, [], _∷_, map}
 use lib.ListN.{length, getD}
 use lib.Dec.{eqb, eqb→eq, not-T}
@@ -47,6 +47,20 @@ landedWord x (suc parameter) = passes.Value parameter
 -- the records of items
 abbrev pub itemsRecords : List Item → List Record
 itemsRecords is = concatMap itemRecords is
+
+-- a part of an edge argument, and not of a value that a record names
+abbrev pub ofArgument : Part → Bool
+ofArgument part.Load = false
+ofArgument part.Store = false
+ofArgument part.Argument = false
+ofArgument part.Result = false
+ofArgument part.Context = false
+ofArgument part.Parameter = false
+ofArgument part.PassedLoad = true
+ofArgument part.Passed = true
+ofArgument part.Word = true
+ofArgument part.LandingParameter = true
+ofArgument part.Landed = true
 
 module _ (size slot : ℕ → ℕ) where
   -- what a part has for a record, by its words and the number beside it

@@ -1,15 +1,18 @@
 // What is written for one record of the file, by value: at most two records.
 ghost use mathlib.Core.Path.{_≡_};
-ghost use mathlib.Core.Bool.{true};
+ghost use mathlib.Core.Bool.{true, false};
 ghost use mathlib.Core.List.{_∷_, [], map};
-ghost use Rattle.rules.specs.Records.{records};
+ghost use Prim.Native.Nat.{_<_};
+ghost use lib.Dec.{eqb};
+ghost use Rattle.rules.specs.Records.{encode, kind, recordAt, recordCount, records};
 ghost use Rattle.rules.specs.File.{ordered, functionIn};
 ghost use Rattle.rules.specs.Graph.{sizeOf};
 ghost use Rattle.rules.specs.Rewriting.{operand, edgeOperand, wordsAmong, landingParameters, landedArgument, storeItems, loadItems, edgeLoadItems};
 ghost use Rattle.rules.specs.declared.Record.the-variants.{EdgeArgument as RecordOfArgument, Parameter as RecordOfParameter};
 ghost use Rattle.numbering.specs.Beside.{made};
-ghost use Rattle.writing.specs.Parts.{recordsOf, slotIn, tagged, landedWord, itemsRecords, partRecords, partIf};
-use records::edge_argument;
+ghost use Rattle.writing.specs.Parts.{recordsOf, slotIn, tagged, landedWord, itemsRecords, ofArgument, partRecords};
+use records::in_order::decoded_at;
+use records::in_order::words_at;
 use records::values::size_of;
 use rules::EdgeArgument;
 use rules::Record;
@@ -184,13 +187,13 @@ fn landed(x: EdgeArgument, tag: u32) -> EdgeArgument
     }
 }
 
-// What a part has for a record, by its words and the tag beside it.
-fn part_of(s: &[u8], slots: &[u32], part: Part, w: Words, tag: u32) -> Written
-    requires { ⌜ ordered 0 (records (now s)) ≡ true ⌝ }
+// What a part of a value has for the record that names it, by its words and the tag beside it. No part of an edge argument
+// is asked here.
+fn named_part(s: &[u8], slots: &[u32], part: Part, w: Words, tag: u32) -> Written
+    requires { ⌜ (ordered 0 (records (now s)) ≡ true) × (ofArgument part ≡ false) ⌝ }
     ensures { λ r. ⌜ recordsOf r ≡ partRecords (sizeOf (functionIn (now (s .entry)))) (slotIn (now (slots .entry))) part w (made tag) ⌝ }
 {
     let v = w.second;
-    let x = edge_argument(v, w.third);
     match part {
         Part::Load => load_of(s, slots, v, tag),
         Part::Store => store_of(s, slots, v, tag),
@@ -198,21 +201,33 @@ fn part_of(s: &[u8], slots: &[u32], part: Part, w: Words, tag: u32) -> Written
         Part::Result => Written::One(Record::Result(v)),
         Part::Context => Written::One(Record::Context(v)),
         Part::Parameter => Written::One(Record::Parameter(v)),
+        _ => Written::Nothing,
+    }
+}
+
+// What a part of an edge argument has for it, by the tag beside its record. No part of a value is asked here.
+fn passed_part(s: &[u8], slots: &[u32], part: Part, x: EdgeArgument, tag: u32) -> Written
+    requires { ⌜ (ordered 0 (records (now s)) ≡ true) × (ofArgument part ≡ true) ⌝ }
+    ensures { λ r. ⌜ recordsOf r ≡ partRecords (sizeOf (functionIn (now (s .entry)))) (slotIn (now (slots .entry))) part (encode (RecordOfArgument x)) (made tag) ⌝ }
+{
+    match part {
         Part::PassedLoad => passed_load(s, slots, x, tag),
         Part::Passed => Written::One(Record::EdgeArgument(passed(x, tag))),
         Part::Word => word_only(x),
         Part::LandingParameter => landing_parameter(x, tag),
         Part::Landed => Written::One(Record::EdgeArgument(landed(x, tag))),
+        _ => Written::Nothing,
     }
 }
 
-// That of a record of the kind, nothing for another.
-pub fn part_if(s: &[u8], slots: &[u32], kind: u32, part: Part, w: Words, tag: u32) -> Written
-    requires { ⌜ ordered 0 (records (now s)) ≡ true ⌝ }
-    ensures { λ r. ⌜ recordsOf r ≡ partIf (sizeOf (functionIn (now (s .entry)))) (slotIn (now (slots .entry))) kind part w (made tag) ⌝ }
+// What a part has for the record at place i, by the tag beside it.
+pub fn part_of(s: &[u8], slots: &[u32], part: Part, i: usize, tag: u32) -> Written
+    requires { ⌜ (i < recordCount (now s)) × (ofArgument part ≡ eqb (kind (recordAt (now s) i)) 8) × (ordered 0 (records (now s)) ≡ true) ⌝ }
+    ensures { λ r. ⌜ recordsOf r ≡ partRecords (sizeOf (functionIn (now (s .entry)))) (slotIn (now (slots .entry))) part (encode (recordAt (now (s .entry)) i)) (made tag) ⌝ }
 {
-    if w.kind == kind {
-        return part_of(s, slots, part, w, tag);
+    let r = decoded_at(s, i);
+    match r {
+        Record::EdgeArgument(x) => passed_part(s, slots, part, x, tag),
+        _ => named_part(s, slots, part, words_at(s, i), tag),
     }
-    Written::Nothing
 }

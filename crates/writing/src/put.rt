@@ -1,12 +1,18 @@
 // Records put at the front of the output and counted.
+ghost use mathlib.Core.Path.{_≡_};
+ghost use mathlib.Core.Bool.{true};
 ghost use mathlib.Core.List.{_∷_, []};
-ghost use Prim.Native.Nat.{_+_, _≤_};
+ghost use Prim.Native.Nat.{_+_, _<_, _≤_};
 ghost use lib.ListN.{length};
 ghost use Rattle.rules.specs.Limits.{recordBytes};
+ghost use Rattle.rules.specs.Records.{recordAt, recordCount, records};
+ghost use Rattle.rules.specs.File.{ordered};
 ghost use Rattle.writing.specs.Parts.{recordsOf};
 ghost use Rattle.writing.specs.Wrote.{room, Wrote};
 use crate::parts::Written;
+use records::in_order::words_at;
 use records::put_record;
+use records::put_words;
 use rules::RECORD_BYTES;
 use rules::Record;
 
@@ -16,6 +22,15 @@ pub fn put(out: &mut [u8], r: Record) -> usize
     ensures { λ n. ⌜ Wrote (now (out .entry)) (r ∷ []) n (now (out .exit)) ⌝ }
 {
     put_record(out, r);
+    RECORD_BYTES
+}
+
+// The record at place i of a file in order, as it stands.
+pub fn put_copy(s: &[u8], i: usize, out: &mut [u8]) -> usize
+    requires { ⌜ (i < recordCount (now s)) × (recordBytes ≤ length (now out)) × (ordered 0 (records (now s)) ≡ true) ⌝ }
+    ensures { λ n. ⌜ Wrote (now (out .entry)) (recordAt (now (s .entry)) i ∷ []) n (now (out .exit)) ⌝ }
+{
+    put_words(out, words_at(s, i));
     RECORD_BYTES
 }
 

@@ -1,15 +1,16 @@
 // Edges: what each asks to be loaded before its instruction, the edge itself, and its landing.
+ghost use mathlib.Core.Path.{_≡_};
+ghost use mathlib.Core.Bool.{true};
 ghost use Prim.Native.Nat.{_+_, _<_, _≤_};
 ghost use lib.ListN.{length};
 ghost use Rattle.rules.specs.Records.{recordCount};
 ghost use Rattle.writing_edges.specs.Edges.{edgeAnd, landingHead, landingJump, landingItems, landingAnd, edgePart, edgePartAt};
-ghost use Rattle.writing.specs.Parts.{Readable};
+ghost use Rattle.writing.specs.Parts.{ofArgument, Readable};
 ghost use Rattle.writing.specs.Places.{fromTo};
 ghost use Rattle.writing.specs.Wrote.{room, Wrote};
 ghost use Rattle.writing_edges.specs.declared.edges.EdgePart.the-variants.{Loads as LoadsOf, Itself as EdgeOf, Landing as LandingOf};
-use records::kind_of;
-use records::record_at;
-use records::words_of;
+use records::in_order::kind_at;
+use records::in_order::words_at;
 use rules::Record;
 use writing::parts::Part;
 use writing::put::put;
@@ -35,7 +36,7 @@ fn put_edge_to(
     end: usize,
     out: &mut [u8],
 ) -> usize
-    requires { ⌜ Readable (now s) (now numbers) × (from ≤ end) × (end ≤ recordCount (now s)) × (room (edgeAnd (now s) (now numbers) (now slots) target part from end) ≤ length (now out)) ⌝ }
+    requires { ⌜ Readable (now s) (now numbers) × (from ≤ end) × (end ≤ recordCount (now s)) × (room (edgeAnd (now s) (now numbers) (now slots) target part from end) ≤ length (now out)) × (ofArgument part ≡ true) ⌝ }
     ensures { λ r. ⌜ Wrote (now (out .entry)) (edgeAnd (now (s .entry)) (now (numbers .entry)) (now (slots .entry)) target part from end) r (now (out .exit)) ⌝ }
 {
     let first = put(out, Record::Edge(target));
@@ -68,7 +69,7 @@ fn put_edge(s: &[u8], numbers: &[u32], slots: &[u32], p: usize, end: usize, out:
 {
     let tag = numbers[p];
     if tag == 0 {
-        let w = words_of(record_at(s, p));
+        let w = words_at(s, p);
         return put_edge_to(s, numbers, slots, w.second, Part::Passed, p + 1, end, out);
     }
     put_edge_to(s, numbers, slots, tag - 1, Part::Word, p + 1, end, out)
@@ -119,7 +120,7 @@ fn put_landing_jump(
     requires { ⌜ Readable (now s) (now numbers) × (p < end) × (end ≤ recordCount (now s)) × (room (landingJump (now s) (now numbers) (now slots) p end) ≤ length (now out)) ⌝ }
     ensures { λ r. ⌜ Wrote (now (out .entry)) (landingJump (now (s .entry)) (now (numbers .entry)) (now (slots .entry)) p end) r (now (out .exit)) ⌝ }
 {
-    let target = words_of(record_at(s, p)).second;
+    let target = words_at(s, p).second;
     let first = put(out, Record::Jump);
     let rest = put_edge_to(
         s,
@@ -221,7 +222,7 @@ fn put_edge_at(
     requires { ⌜ Readable (now s) (now numbers) × (i < end) × (end ≤ recordCount (now s)) × (room (edgePartAt (now s) (now numbers) (now slots) part end i) ≤ length (now out)) ⌝ }
     ensures { λ r. ⌜ Wrote (now (out .entry)) (edgePartAt (now (s .entry)) (now (numbers .entry)) (now (slots .entry)) part end i) r (now (out .exit)) ⌝ }
 {
-    if kind_of(record_at(s, i)) == 7 {
+    if kind_at(s, i) == 7 {
         return put_edge_part(
             s,
             numbers,

@@ -7,9 +7,8 @@ ghost use Rattle.writing.specs.Parts.{Readable};
 ghost use Rattle.writing.specs.Wrote.{room, Wrote};
 ghost use Rattle.writing_instructions.specs.Runs.{loadsRun, operandsRun, exitsRun, itselfRun, instructionRun};
 use crate::entries::put_entries;
-use records::record_at;
 use writing::parts::Part;
-use writing::put::put;
+use writing::put::put_copy;
 use writing::run::put_parts;
 use writing_edges::edges::EdgePart;
 use writing_edges::edges::put_edges;
@@ -89,7 +88,7 @@ fn put_itself(
     requires { ⌜ Readable (now s) (now numbers) × (p < end) × (end ≤ recordCount (now s)) × HasRow (now lists) i × (values ≤ rowValues) × (room (itselfRun (now s) (now numbers) (now slots) (rows (now lists) i) values p end) ≤ length (now out)) ⌝ }
     ensures { λ r. ⌜ Wrote (now (out .entry)) (itselfRun (now (s .entry)) (now (numbers .entry)) (now (slots .entry)) (rows (now (lists .entry)) i) values p end) r (now (out .exit)) ⌝ }
 {
-    let a = put(out, record_at(s, p));
+    let a = put_copy(s, p, out);
     let b = put_operands(s, numbers, slots, p + 1, end, &mut out[a..]);
     let ab = a + b;
     let c = put_exits(s, numbers, slots, p + 1, end, &mut out[ab..]);

@@ -1,13 +1,11 @@
 -- `layout::blocks::copy_records` meets its contract.
 use borrow.Author.Needs.{needs}
-use Rattle.layout.specs.BlockRuns.{copyAt}
-use Rattle.writing.specs.Places.{fromTo, wrote-start, wrote-turn, turn-room}
-use Rattle.writing.specs.Wrote.{Wrote, lent-room}
-use Rattle.rules.specs.declared.Record.{Record}
-use Prim.Native.Nat.{_-_, _≤_}
+use mathlib.Core.Path.{_≡_, refl}
 use native.Mathlib.Omega.{arith}
-use mathlib.Core.List.{_∷_, []}
-use mathlib.Core.Path.{_≡_, ap}
+use Prim.Native.Nat.{_-_, _≤_}
+use Rattle.writing.specs.Wrote.{Wrote, lent-room}
+use Rattle.writing.specs.Places.{fromTo, wrote-start, wrote-turn, turn-room}
+use Rattle.layout.specs.BlockRuns.{copyAt}
 use Rattle.layout.proofs.blocks.copy_records.Statement.{statement}
 use Rattle.layout.proofs.blocks.copy_records.Tie as tie
 
@@ -20,32 +18,29 @@ abbrev μ-loop : tie.MeasureT-loop
 loop-holds : tie.Need-loop-holds Inv-loop μ-loop
 loop-holds c = (search needs, search needs, wrote-start _ _ _)
 
-sub-put : tie.Need-sub-put Inv-loop μ-loop
-sub-put c =
+sub-put-copy : tie.Need-sub-put-copy Inv-loop μ-loop
+sub-put-copy c =
     let g = copyAt (c .before .before .before .before .args .s .now) in
     let fits = turn-room g (c .before .before .before .before .args .from) (c .before .loop .i) (c .before .loop .inv .0) (c .before .before .before .before .args .end) (c .loop-test .taken) (c .before .before .before .before .pre .2) (c .before .loop .inv .2) in omega arith
 
-part-put-start : tie.Need-part-put-start Inv-loop μ-loop
-part-put-start c =
+part-put-copy-start : tie.Need-part-put-copy-start Inv-loop μ-loop
+part-put-copy-start c =
     let g = copyAt (c .before .before .before .before .args .s .now) in
     let fits = turn-room g (c .before .before .before .before .args .from) (c .before .loop .i) (c .before .loop .inv .0) (c .before .before .before .before .args .end) (c .loop-test .taken) (c .before .before .before .before .pre .2) (c .before .loop .inv .2) in omega arith
 
-part-put-end : tie.Need-part-put-end Inv-loop μ-loop
-part-put-end c = search needs
+part-put-copy-end : tie.Need-part-put-copy-end Inv-loop μ-loop
+part-put-copy-end c = search needs
 
-record-at-requires : tie.Need-record-at-requires Inv-loop μ-loop
-record-at-requires c κs = search needs
-
-put-requires : tie.Need-put-requires Inv-loop μ-loop
-put-requires c κs =
-    let g = copyAt (c .before .before .before .before .before .before .args .s .now) in
-    let fits = turn-room g (c .before .before .before .before .before .before .args .from) (c .before .before .before .loop .i) (c .before .before .before .loop .inv .0) (c .before .before .before .before .before .before .args .end) (c .before .before .loop-test .taken) (c .before .before .before .before .before .before .pre .2) (c .before .before .before .loop .inv .2) in
-    (lent-room (c .before .before .before .loop .out) (c .before .before .before .loop .at) (c .record-at .result ∷ []) (g (c .before .before .before .loop .i)) (ap (λ (r : Record). r ∷ []) (c .record-at .ensures)) fits)
+put-copy-requires : tie.Need-put-copy-requires Inv-loop μ-loop
+put-copy-requires c κs =
+    let g = copyAt (c .before .before .before .before .before .args .s .now) in
+    let fits = turn-room g (c .before .before .before .before .before .args .from) (c .before .before .loop .i) (c .before .before .loop .inv .0) (c .before .before .before .before .before .args .end) (c .before .loop-test .taken) (c .before .before .before .before .before .pre .2) (c .before .before .loop .inv .2) in
+    (search needs, lent-room (c .before .before .loop .out) (c .before .before .loop .at) (g (c .before .before .loop .i)) (g (c .before .before .loop .i)) refl fits, c .before .before .before .before .before .pre .3)
 
 add-at : tie.Need-add-at Inv-loop μ-loop
 add-at c =
-    let g = copyAt (c .before .before .before .before .before .before .before .before .before .args .s .now) in
-    omega (arith, turn-room g (c .before .before .before .before .before .before .before .before .before .args .from) (c .before .before .before .before .before .before .loop .i) (c .before .before .before .before .before .before .loop .inv .0) (c .before .before .before .before .before .before .before .before .before .args .end) (c .before .before .before .before .before .loop-test .taken) (c .before .before .before .before .before .before .before .before .before .pre .2) (c .before .before .before .before .before .before .loop .inv .2), c .before .before .put .ensures .count)
+    let g = copyAt (c .before .before .before .before .before .before .before .before .args .s .now) in
+    omega (arith, turn-room g (c .before .before .before .before .before .before .before .before .args .from) (c .before .before .before .before .before .loop .i) (c .before .before .before .before .before .loop .inv .0) (c .before .before .before .before .before .before .before .before .args .end) (c .before .before .before .before .loop-test .taken) (c .before .before .before .before .before .before .before .before .pre .2) (c .before .before .before .before .before .loop .inv .2), c .before .before .put-copy .ensures .count)
 
 add-i : tie.Need-add-i Inv-loop μ-loop
 add-i c = search needs
@@ -55,9 +50,9 @@ loop-less c = search needs
 
 loop-again : tie.Need-loop-again Inv-loop μ-loop
 loop-again c =
-    let g = copyAt (c .before .before .before .before .before .before .before .before .before .args .s .now) in
-    let fits = turn-room g (c .before .before .before .before .before .before .before .before .before .args .from) (c .before .before .before .before .before .before .loop .i) (c .before .before .before .before .before .before .loop .inv .0) (c .before .before .before .before .before .before .before .before .before .args .end) (c .before .before .before .before .before .loop-test .taken) (c .before .before .before .before .before .before .before .before .before .pre .2) (c .before .before .before .before .before .before .loop .inv .2) in
-    (search needs, search needs, wrote-turn g (c .before .before .before .before .before .before .before .before .before .args .from) (c .before .before .before .before .before .before .loop .i) (c .before .before .before .before .before .before .loop .inv .0) (c .before .before .before .record-at .result ∷ []) (ap (λ (r : Record). r ∷ []) (c .before .before .before .record-at .ensures)) (c .before .before .before .before .before .before .loop .inv .2) (omega arith) (c .before .before .put .ensures))
+    let g = copyAt (c .before .before .before .before .before .before .before .before .args .s .now) in
+    let fits = turn-room g (c .before .before .before .before .before .before .before .before .args .from) (c .before .before .before .before .before .loop .i) (c .before .before .before .before .before .loop .inv .0) (c .before .before .before .before .before .before .before .before .args .end) (c .before .before .before .before .loop-test .taken) (c .before .before .before .before .before .before .before .before .pre .2) (c .before .before .before .before .before .loop .inv .2) in
+    (search needs, search needs, wrote-turn g (c .before .before .before .before .before .before .before .before .args .from) (c .before .before .before .before .before .loop .i) (c .before .before .before .before .before .loop .inv .0) (g (c .before .before .before .before .before .loop .i)) refl (c .before .before .before .before .before .loop .inv .2) (omega arith) (c .before .before .put-copy .ensures))
 
 same-length : tie.Need-same-length Inv-loop μ-loop
 same-length c = search needs
@@ -72,11 +67,10 @@ copy-records-spec =
     Inv-loop
     μ-loop
     loop-holds
-    sub-put
-    part-put-start
-    part-put-end
-    record-at-requires
-    put-requires
+    sub-put-copy
+    part-put-copy-start
+    part-put-copy-end
+    put-copy-requires
     add-at
     add-i
     loop-less

@@ -5,6 +5,7 @@ use Rattle.layout.specs.BlockRuns.{number-le}
 use lib.ListN.{getD}
 use Prim.Native.Nat.{_+_, _-_}
 use native.Mathlib.Omega.{arith}
+use borrow.Author.Needs.{needs}
 use Rattle.layout.proofs.laying.next_number.Statement.{statement}
 use Rattle.layout.proofs.laying.next_number.Tie as tie
 
@@ -27,7 +28,9 @@ shared-slice-read-count-instructions-2 : tie.Need-shared-slice-read-count-instru
 shared-slice-read-count-instructions-2 c = omega (arith, c .before .before .before .before .pre .1, places-long (c .before .before .before .before .args .s .now) (c .before .before .before .before .args .places .now) (c .before .before .before .before .pre .0))
 
 count-instructions-requires : tie.Need-count-instructions-requires
-count-instructions-requires c κs = (start-less (c .before .before .before .before .args .s .now) (c .before .before .before .before .args .places .now) (c .before .before .before .before .pre .0) (c .before .before .before .before .args .b) (c .before .before .before .before .pre .1), end-le (c .before .before .before .before .args .s .now) (c .before .before .before .before .args .places .now) (c .before .before .before .before .pre .0) (c .before .before .before .before .args .b) (c .before .before .before .before .pre .1))
+count-instructions-requires c κs =
+    let start = start-less (c .before .before .before .before .args .s .now) (c .before .before .before .before .args .places .now) (c .before .before .before .before .pre .0) (c .before .before .before .before .args .b) (c .before .before .before .before .pre .1) in
+    let end = end-le (c .before .before .before .before .args .s .now) (c .before .before .before .before .args .places .now) (c .before .before .before .before .pre .0) (c .before .before .before .before .args .b) (c .before .before .before .before .pre .1) in search needs
 
 add-result : tie.Need-add-result
 add-result c = omega (arith, c .before .before .before .before .before .pre .2, c .count-instructions .ensures, number-next (c .before .before .before .before .before .pre .0) (c .before .before .before .before .before .args .b) (c .before .before .before .before .before .pre .1), number-le (c .before .before .before .before .before .args .s .now) (getD (c .before .before .before .before .before .args .places .now) (c .before .before .before .before .before .args .b + 1) 0), end-le (c .before .before .before .before .before .args .s .now) (c .before .before .before .before .before .args .places .now) (c .before .before .before .before .before .pre .0) (c .before .before .before .before .before .args .b) (c .before .before .before .before .before .pre .1))

@@ -1,6 +1,6 @@
 -- `layout::laying::put_blocks` meets its contract.
 use borrow.Author.Needs.{needs}
-use Rattle.layout.specs.Laid.{blockPartAt, number-none}
+use Rattle.layout.specs.Laid.{tables-readable, blockPartAt, number-none}
 use Rattle.layout.specs.BlockRuns.{numberAt}
 use Rattle.writing.specs.Places.{fromTo, wrote-start, wrote-turn, turn-room}
 use Rattle.writing.specs.Wrote.{Wrote, lent-room}
@@ -46,7 +46,7 @@ add-at c =
     omega (arith, turn-room g 0 (c .before .before .before .before .before .loop .b) (c .before .before .before .before .before .loop .inv .0) (c .before .before .before .before .before .before .before .before .before .before .before .before .before .args .blocks) (c .before .before .before .before .loop-test .taken) (c .before .before .before .before .before .before .before .before .before .before .before .before .before .pre .2) (c .before .before .before .before .before .loop .inv .3), c .before .before .put-laid .ensures .count)
 
 next-number-requires : tie.Need-next-number-requires Inv-loop μ-loop
-next-number-requires c κs = (c .before .before .before .before .before .before .before .before .before .before .before .before .before .pre .0 .tables .given, omega (arith, c .before .before .before .before .loop-test .taken, c .before .before .before .before .before .before .before .before .before .before .before .before .before .pre .1), c .before .before .before .before .before .loop .inv .2)
+next-number-requires c κs = (c .before .before .before .before .before .before .before .before .before .before .before .before .before .pre .0 .tables .given, omega (arith, c .before .before .before .before .loop-test .taken, c .before .before .before .before .before .before .before .before .before .before .before .before .before .pre .1), c .before .before .before .before .before .loop .inv .2, tables-readable (c .before .before .before .before .before .before .before .before .before .before .before .before .before .pre .0) .inOrder)
 
 add-b : tie.Need-add-b Inv-loop μ-loop
 add-b c = search needs

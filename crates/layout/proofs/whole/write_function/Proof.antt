@@ -1,7 +1,7 @@
 -- `layout::whole::write_function` meets its contract.
 use Rattle.layout.specs.Whole.{functionRun, function-written}
 use Rattle.layout.specs.Sizes.{newValueAt, slotAt, values-inside}
-use Rattle.layout.specs.Laid.{blockPartAt}
+use Rattle.layout.specs.Laid.{tables-readable, blockPartAt}
 use Rattle.layout.specs.BlockRuns.{copyAt}
 use Rattle.rows.specs.Rows.{rows}
 use Rattle.writing.specs.Places.{fromTo}
@@ -25,7 +25,7 @@ copy-records-requires c κs =
     let h3 = first-fits ((b1 ++ b2) ++ b3) b4 (c .before .before .before .before .before .before .before .before .before .before .args .out .now) h4 in
     let h2 = first-fits (b1 ++ b2) b3 (c .before .before .before .before .before .before .before .before .before .before .args .out .now) h3 in
     let h1 = first-fits b1 b2 (c .before .before .before .before .before .before .before .before .before .before .args .out .now) h2 in
-    (omega arith, values-inside (c .before .before .before .before .before .before .before .before .before .before .args .s .now) (c .before .before .before .before .before .before .before .before .before .before .pre .0 .byBlock .tables .given .inOrder) (c .before .before .before .before .before .before .before .before .before .before .args .counts .values) (c .before .before .before .before .before .before .before .before .before .before .pre .0 .valueCount), h1)
+    (omega arith, values-inside (c .before .before .before .before .before .before .before .before .before .before .args .s .now) (c .before .before .before .before .before .before .before .before .before .before .pre .0 .byBlock .tables .given .inOrder) (c .before .before .before .before .before .before .before .before .before .before .args .counts .values) (c .before .before .before .before .before .before .before .before .before .before .pre .0 .valueCount), h1, tables-readable (c .before .before .before .before .before .before .before .before .before .before .pre .0 .byBlock) .inOrder)
 
 sub-put-new-values : tie.Need-sub-put-new-values
 unfolding functionRun

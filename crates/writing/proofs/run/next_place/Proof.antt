@@ -1,10 +1,9 @@
 -- `writing::run::next_place` meets its contract.
 use borrow.Author.Needs.{needs}
-use Rattle.writing.specs.Next.{nextPlace, nextPlace-none, nextPlace-here, nextPlace-later}
-use Rattle.rules.specs.Records.{kind}
-use native.Mathlib.Omega.{arith}
-use mathlib.Core.Path.{_≡_, refl, sym, ap, _∙_}
 use Prim.Native.Nat.{_≤_, _-_}
+use mathlib.Core.Path.{_≡_, refl, sym, _∙_}
+use native.Mathlib.Omega.{arith}
+use Rattle.writing.specs.Next.{nextPlace, nextPlace-none, nextPlace-here, nextPlace-later}
 use Rattle.writing.proofs.run.next_place.Statement.{statement}
 use Rattle.writing.proofs.run.next_place.Tie as tie
 
@@ -17,14 +16,11 @@ abbrev μ-loop : tie.MeasureT-loop
 loop-holds : tie.Need-loop-holds Inv-loop μ-loop
 loop-holds c = (search needs, search needs, refl)
 
-record-at-requires : tie.Need-record-at-requires Inv-loop μ-loop
-record-at-requires c κs = search needs
-
-kind-of-requires : tie.Need-kind-of-requires Inv-loop μ-loop
-kind-of-requires c κs = search needs
+kind-at-requires : tie.Need-kind-at-requires Inv-loop μ-loop
+kind-at-requires c κs = search needs
 
 returns : tie.Need-returns Inv-loop μ-loop
-returns c = sym (nextPlace-here (c .before .before .before .before .before .before .args .s .now) (c .before .before .before .before .before .before .args .kind) (c .before .before .before .before .loop .i) (c .before .before .before .before .before .before .args .end) (c .before .before .before .loop-test .taken) (c .before .before .before .before .before .before .pre .1) (ap kind (sym (c .before .before .record-at .ensures)) ∙ sym (c .before .kind-of .ensures .0) ∙ c .if1 .taken)) ∙ c .before .before .before .before .loop .inv .2
+returns c = sym (nextPlace-here (c .before .before .before .before .before .args .s .now) (c .before .before .before .before .before .args .kind) (c .before .before .before .loop .i) (c .before .before .before .before .before .args .end) (c .before .before .loop-test .taken) (c .before .before .before .before .before .pre .1) (sym (c .before .kind-at .ensures .0) ∙ c .if1 .taken)) ∙ c .before .before .before .loop .inv .2
 
 add-i : tie.Need-add-i Inv-loop μ-loop
 add-i c = search needs
@@ -33,7 +29,7 @@ loop-less : tie.Need-loop-less Inv-loop μ-loop
 loop-less c = search needs
 
 loop-again : tie.Need-loop-again Inv-loop μ-loop
-loop-again c = (search needs, search needs, sym (nextPlace-later (c .before .before .before .before .before .before .args .s .now) (c .before .before .before .before .before .before .args .kind) (c .before .before .before .before .loop .i) (c .before .before .before .before .before .before .args .end) (c .before .before .before .loop-test .taken) (c .before .before .before .before .before .before .pre .1) (λ e. c .if1 .left (c .before .kind-of .ensures .0 ∙ ap kind (c .before .before .record-at .ensures) ∙ e))) ∙ c .before .before .before .before .loop .inv .2)
+loop-again c = (search needs, search needs, sym (nextPlace-later (c .before .before .before .before .before .args .s .now) (c .before .before .before .before .before .args .kind) (c .before .before .before .loop .i) (c .before .before .before .before .before .args .end) (c .before .before .loop-test .taken) (c .before .before .before .before .before .pre .1) (λ e. c .if1 .left (c .before .kind-at .ensures .0 ∙ e))) ∙ c .before .before .before .loop .inv .2)
 
 returns-2 : tie.Need-returns-2 Inv-loop μ-loop
 returns-2 c = nextPlace-none (c .before .before .before .args .s .now) (c .before .before .before .args .kind) (c .before .loop .i) (c .before .before .before .args .end) (omega arith) ∙ c .before .loop .inv .2
@@ -45,8 +41,7 @@ next-place-spec =
     Inv-loop
     μ-loop
     loop-holds
-    record-at-requires
-    kind-of-requires
+    kind-at-requires
     returns
     add-i
     loop-less

@@ -1,13 +1,11 @@
 -- `writing::run::put_parts` meets its contract.
-use Rattle.writing.proofs.Running.{part-here}
-use Rattle.writing.specs.Wrote.{lent-room, Wrote}
 use borrow.Author.Needs.{needs}
-use Rattle.writing.specs.Places.{fromTo, wrote-start, wrote-turn, turn-room}
-use Rattle.writing.specs.Parts.{partAt, recordsOf}
-use lib.ListN.{length}
-use native.Mathlib.Omega.{arith}
-use mathlib.Core.Path.{_≡_, ap}
 use Prim.Native.Nat.{_≤_, _-_}
+use mathlib.Core.Path.{_≡_, refl}
+use native.Mathlib.Omega.{arith}
+use Rattle.writing.specs.Parts.{partAt}
+use Rattle.writing.specs.Places.{fromTo, wrote-start, wrote-turn, turn-room}
+use Rattle.writing.specs.Wrote.{lent-room, Wrote}
 use Rattle.writing.proofs.run.put_parts.Statement.{statement}
 use Rattle.writing.proofs.run.put_parts.Tie as tie
 
@@ -20,43 +18,29 @@ abbrev μ-loop : tie.MeasureT-loop
 loop-holds : tie.Need-loop-holds Inv-loop μ-loop
 loop-holds c = (search needs, search needs, wrote-start _ _ _)
 
-record-at-requires : tie.Need-record-at-requires Inv-loop μ-loop
-record-at-requires c κs = search needs
+sub-put-part-at : tie.Need-sub-put-part-at Inv-loop μ-loop
+sub-put-part-at c = let fits = turn-room (partAt (c .before .before .before .before .before .before .args .s .now) (c .before .before .before .before .before .before .args .numbers .now) (c .before .before .before .before .before .before .args .slots .now) (c .before .before .before .before .before .before .args .kind) (c .before .before .before .before .before .before .args .part)) (c .before .before .before .before .before .before .args .from) (c .before .loop .i) (c .before .loop .inv .0) (c .before .before .before .before .before .before .args .end) (c .loop-test .taken) (c .before .before .before .before .before .before .pre .3) (c .before .loop .inv .2) in omega arith
 
-words-of-requires : tie.Need-words-of-requires Inv-loop μ-loop
-words-of-requires c κs = search needs
+part-put-part-at-start : tie.Need-part-put-part-at-start Inv-loop μ-loop
+part-put-part-at-start c = let fits = turn-room (partAt (c .before .before .before .before .before .before .args .s .now) (c .before .before .before .before .before .before .args .numbers .now) (c .before .before .before .before .before .before .args .slots .now) (c .before .before .before .before .before .before .args .kind) (c .before .before .before .before .before .before .args .part)) (c .before .before .before .before .before .before .args .from) (c .before .loop .i) (c .before .loop .inv .0) (c .before .before .before .before .before .before .args .end) (c .loop-test .taken) (c .before .before .before .before .before .before .pre .3) (c .before .loop .inv .2) in omega arith
 
-mul-part-if : tie.Need-mul-part-if Inv-loop μ-loop
-mul-part-if c = search needs
+part-put-part-at-end : tie.Need-part-put-part-at-end Inv-loop μ-loop
+part-put-part-at-end c = search needs
 
-shared-slice-read-part-if : tie.Need-shared-slice-read-part-if Inv-loop μ-loop
-shared-slice-read-part-if c = search needs
-
-part-if-requires : tie.Need-part-if-requires Inv-loop μ-loop
-part-if-requires c κs = search needs
-
-sub-put-written : tie.Need-sub-put-written Inv-loop μ-loop
-sub-put-written c = let fits = turn-room (partAt (c .before .before .before .before .before .before .before .before .before .before .args .s .now) (c .before .before .before .before .before .before .before .before .before .before .args .numbers .now) (c .before .before .before .before .before .before .before .before .before .before .args .slots .now) (c .before .before .before .before .before .before .before .before .before .before .args .kind) (c .before .before .before .before .before .before .before .before .before .before .args .part)) (c .before .before .before .before .before .before .before .before .before .before .args .from) (c .before .before .before .before .before .loop .i) (c .before .before .before .before .before .loop .inv .0) (c .before .before .before .before .before .before .before .before .before .before .args .end) (c .before .before .before .before .loop-test .taken) (c .before .before .before .before .before .before .before .before .before .before .pre .3) (c .before .before .before .before .before .loop .inv .2) in omega arith
-
-part-put-written-start : tie.Need-part-put-written-start Inv-loop μ-loop
-part-put-written-start c = let fits = turn-room (partAt (c .before .before .before .before .before .before .before .before .before .before .args .s .now) (c .before .before .before .before .before .before .before .before .before .before .args .numbers .now) (c .before .before .before .before .before .before .before .before .before .before .args .slots .now) (c .before .before .before .before .before .before .before .before .before .before .args .kind) (c .before .before .before .before .before .before .before .before .before .before .args .part)) (c .before .before .before .before .before .before .before .before .before .before .args .from) (c .before .before .before .before .before .loop .i) (c .before .before .before .before .before .loop .inv .0) (c .before .before .before .before .before .before .before .before .before .before .args .end) (c .before .before .before .before .loop-test .taken) (c .before .before .before .before .before .before .before .before .before .before .pre .3) (c .before .before .before .before .before .loop .inv .2) in omega arith
-
-part-put-written-end : tie.Need-part-put-written-end Inv-loop μ-loop
-part-put-written-end c = search needs
-
-put-written-requires : tie.Need-put-written-requires Inv-loop μ-loop
-put-written-requires c κs =
-    let g = partAt (c .before .before .before .before .before .before .before .before .before .before .before .args .s .now) (c .before .before .before .before .before .before .before .before .before .before .before .args .numbers .now) (c .before .before .before .before .before .before .before .before .before .before .before .args .slots .now) (c .before .before .before .before .before .before .before .before .before .before .before .args .kind) (c .before .before .before .before .before .before .before .before .before .before .before .args .part) in
-    lent-room (c .before .before .before .before .before .before .loop .out) (c .before .before .before .before .before .before .loop .at) (recordsOf (c .before .part-if .result)) (g (c .before .before .before .before .before .before .loop .i))
-    (part-here (c .before .before .before .before .before .before .before .before .before .before .before .args .s .now) (c .before .before .before .before .before .before .before .before .before .before .before .args .numbers .now) (c .before .before .before .before .before .before .before .before .before .before .before .args .slots .now) (c .before .before .before .before .before .before .before .before .before .before .before .args .kind) (c .before .before .before .before .before .before .before .before .before .before .before .args .part) (c .before .before .before .before .before .before .loop .i) _ (c .before .before .before .words-of .result) (c .before .before .before .before .record-at .result) (c .before .part-if .ensures) (c .before .before .before .words-of .ensures) (c .before .before .before .before .record-at .ensures))
-    (turn-room g (c .before .before .before .before .before .before .before .before .before .before .before .args .from) (c .before .before .before .before .before .before .loop .i) (c .before .before .before .before .before .before .loop .inv .0) (c .before .before .before .before .before .before .before .before .before .before .before .args .end) (c .before .before .before .before .before .loop-test .taken) (c .before .before .before .before .before .before .before .before .before .before .before .pre .3) (c .before .before .before .before .before .before .loop .inv .2))
+put-part-at-requires : tie.Need-put-part-at-requires Inv-loop μ-loop
+put-part-at-requires c κs =
+    let g = partAt (c .before .before .before .before .before .before .before .args .s .now) (c .before .before .before .before .before .before .before .args .numbers .now) (c .before .before .before .before .before .before .before .args .slots .now) (c .before .before .before .before .before .before .before .args .kind) (c .before .before .before .before .before .before .before .args .part) in (
+      c .before .before .before .before .before .before .before .pre .0,
+      search needs,
+      lent-room (c .before .before .loop .out) (c .before .before .loop .at) (g (c .before .before .loop .i)) (g (c .before .before .loop .i)) refl (turn-room g (c .before .before .before .before .before .before .before .args .from) (c .before .before .loop .i) (c .before .before .loop .inv .0) (c .before .before .before .before .before .before .before .args .end) (c .before .loop-test .taken) (c .before .before .before .before .before .before .before .pre .3) (c .before .before .loop .inv .2)),
+      c .before .before .before .before .before .before .before .pre .4,
+    )
 
 add-at : tie.Need-add-at Inv-loop μ-loop
 add-at c =
-    let g = partAt (c .before .before .before .before .before .before .before .before .before .before .before .before .before .before .args .s .now) (c .before .before .before .before .before .before .before .before .before .before .before .before .before .before .args .numbers .now) (c .before .before .before .before .before .before .before .before .before .before .before .before .before .before .args .slots .now) (c .before .before .before .before .before .before .before .before .before .before .before .before .before .before .args .kind) (c .before .before .before .before .before .before .before .before .before .before .before .before .before .before .args .part) in
-    let fits = turn-room g (c .before .before .before .before .before .before .before .before .before .before .before .before .before .before .args .from) (c .before .before .before .before .before .before .before .before .before .loop .i) (c .before .before .before .before .before .before .before .before .before .loop .inv .0) (c .before .before .before .before .before .before .before .before .before .before .before .before .before .before .args .end) (c .before .before .before .before .before .before .before .before .loop-test .taken) (c .before .before .before .before .before .before .before .before .before .before .before .before .before .before .pre .3) (c .before .before .before .before .before .before .before .before .before .loop .inv .2) in
-    let same = ap length (part-here (c .before .before .before .before .before .before .before .before .before .before .before .before .before .before .args .s .now) (c .before .before .before .before .before .before .before .before .before .before .before .before .before .before .args .numbers .now) (c .before .before .before .before .before .before .before .before .before .before .before .before .before .before .args .slots .now) (c .before .before .before .before .before .before .before .before .before .before .before .before .before .before .args .kind) (c .before .before .before .before .before .before .before .before .before .before .before .before .before .before .args .part) (c .before .before .before .before .before .before .before .before .before .loop .i) _ (c .before .before .before .before .before .before .words-of .result) (c .before .before .before .before .before .before .before .record-at .result) (c .before .before .before .before .part-if .ensures) (c .before .before .before .before .before .before .words-of .ensures) (c .before .before .before .before .before .before .before .record-at .ensures)) in
-    omega (arith, fits, same, c .before .before .put-written .ensures .count)
+    let g = partAt (c .before .before .before .before .before .before .before .before .before .before .args .s .now) (c .before .before .before .before .before .before .before .before .before .before .args .numbers .now) (c .before .before .before .before .before .before .before .before .before .before .args .slots .now) (c .before .before .before .before .before .before .before .before .before .before .args .kind) (c .before .before .before .before .before .before .before .before .before .before .args .part) in
+    let fits = turn-room g (c .before .before .before .before .before .before .before .before .before .before .args .from) (c .before .before .before .before .before .loop .i) (c .before .before .before .before .before .loop .inv .0) (c .before .before .before .before .before .before .before .before .before .before .args .end) (c .before .before .before .before .loop-test .taken) (c .before .before .before .before .before .before .before .before .before .before .pre .3) (c .before .before .before .before .before .loop .inv .2) in
+    omega (arith, fits, c .before .before .put-part-at .ensures .count)
 
 add-i : tie.Need-add-i Inv-loop μ-loop
 add-i c = search needs
@@ -66,13 +50,11 @@ loop-less c = search needs
 
 loop-again : tie.Need-loop-again Inv-loop μ-loop
 loop-again c =
-    let g = partAt (c .before .before .before .before .before .before .before .before .before .before .before .before .before .before .args .s .now) (c .before .before .before .before .before .before .before .before .before .before .before .before .before .before .args .numbers .now) (c .before .before .before .before .before .before .before .before .before .before .before .before .before .before .args .slots .now) (c .before .before .before .before .before .before .before .before .before .before .before .before .before .before .args .kind) (c .before .before .before .before .before .before .before .before .before .before .before .before .before .before .args .part) in
-    let fits = turn-room g (c .before .before .before .before .before .before .before .before .before .before .before .before .before .before .args .from) (c .before .before .before .before .before .before .before .before .before .loop .i) (c .before .before .before .before .before .before .before .before .before .loop .inv .0) (c .before .before .before .before .before .before .before .before .before .before .before .before .before .before .args .end) (c .before .before .before .before .before .before .before .before .loop-test .taken) (c .before .before .before .before .before .before .before .before .before .before .before .before .before .before .pre .3) (c .before .before .before .before .before .before .before .before .before .loop .inv .2) in (
+    let g = partAt (c .before .before .before .before .before .before .before .before .before .before .args .s .now) (c .before .before .before .before .before .before .before .before .before .before .args .numbers .now) (c .before .before .before .before .before .before .before .before .before .before .args .slots .now) (c .before .before .before .before .before .before .before .before .before .before .args .kind) (c .before .before .before .before .before .before .before .before .before .before .args .part) in
+    let fits = turn-room g (c .before .before .before .before .before .before .before .before .before .before .args .from) (c .before .before .before .before .before .loop .i) (c .before .before .before .before .before .loop .inv .0) (c .before .before .before .before .before .before .before .before .before .before .args .end) (c .before .before .before .before .loop-test .taken) (c .before .before .before .before .before .before .before .before .before .before .pre .3) (c .before .before .before .before .before .loop .inv .2) in (
       search needs,
       search needs,
-      wrote-turn g (c .before .before .before .before .before .before .before .before .before .before .before .before .before .before .args .from) (c .before .before .before .before .before .before .before .before .before .loop .i) (c .before .before .before .before .before .before .before .before .before .loop .inv .0) (recordsOf (c .before .before .before .before .part-if .result))
-          (part-here (c .before .before .before .before .before .before .before .before .before .before .before .before .before .before .args .s .now) (c .before .before .before .before .before .before .before .before .before .before .before .before .before .before .args .numbers .now) (c .before .before .before .before .before .before .before .before .before .before .before .before .before .before .args .slots .now) (c .before .before .before .before .before .before .before .before .before .before .before .before .before .before .args .kind) (c .before .before .before .before .before .before .before .before .before .before .before .before .before .before .args .part) (c .before .before .before .before .before .before .before .before .before .loop .i) _ (c .before .before .before .before .before .before .words-of .result) (c .before .before .before .before .before .before .before .record-at .result) (c .before .before .before .before .part-if .ensures) (c .before .before .before .before .before .before .words-of .ensures) (c .before .before .before .before .before .before .before .record-at .ensures))
-          (c .before .before .before .before .before .before .before .before .before .loop .inv .2) (omega arith) (c .before .before .put-written .ensures),
+      wrote-turn g (c .before .before .before .before .before .before .before .before .before .before .args .from) (c .before .before .before .before .before .loop .i) (c .before .before .before .before .before .loop .inv .0) (g (c .before .before .before .before .before .loop .i)) refl (c .before .before .before .before .before .loop .inv .2) (omega arith) (c .before .before .put-part-at .ensures),
     )
 
 same-length : tie.Need-same-length Inv-loop μ-loop
@@ -88,15 +70,10 @@ put-parts-spec =
     Inv-loop
     μ-loop
     loop-holds
-    record-at-requires
-    words-of-requires
-    mul-part-if
-    shared-slice-read-part-if
-    part-if-requires
-    sub-put-written
-    part-put-written-start
-    part-put-written-end
-    put-written-requires
+    sub-put-part-at
+    part-put-part-at-start
+    part-put-part-at-end
+    put-part-at-requires
     add-at
     add-i
     loop-less

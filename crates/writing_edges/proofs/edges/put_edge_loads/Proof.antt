@@ -1,7 +1,7 @@
 -- `writing_edges::edges::put_edge_loads` meets its contract.
 use lib.ListN.{length}
 use mathlib.Core.List.{[]}
-use mathlib.Core.Path.{sym, ap}
+use mathlib.Core.Path.{refl, sym, ap}
 use native.Mathlib.Omega.{arith}
 use Rattle.writing_edges.specs.Edges.{loads-none, loads-some}
 use Rattle.writing.specs.Wrote.{wrote-as, wrote-none}
@@ -19,7 +19,7 @@ add-put-parts : tie.Need-add-put-parts
 add-put-parts c = search needs
 
 put-parts-requires : tie.Need-put-parts-requires
-put-parts-requires c κs = (c .before .before .before .before .before .before .before .pre .0, search needs, c .before .before .before .before .before .before .before .pre .2, omega (arith, c .before .before .before .before .before .before .before .pre .3, ap length (loads-none (c .before .before .before .before .before .before .before .args .s .now) (c .before .before .before .before .before .before .before .args .numbers .now) (c .before .before .before .before .before .before .before .args .slots .now) (c .before .before .before .before .before .before .before .args .p) (c .before .before .before .before .before .before .before .args .end) (c .before .before .before .before .before .before .before .pre .1) (c .before .before .before .before .before .before .before .pre .2) (c .before .if1 .taken))))
+put-parts-requires c κs = (c .before .before .before .before .before .before .before .pre .0, search needs, c .before .before .before .before .before .before .before .pre .2, omega (arith, c .before .before .before .before .before .before .before .pre .3, ap length (loads-none (c .before .before .before .before .before .before .before .args .s .now) (c .before .before .before .before .before .before .before .args .numbers .now) (c .before .before .before .before .before .before .before .args .slots .now) (c .before .before .before .before .before .before .before .args .p) (c .before .before .before .before .before .before .before .args .end) (c .before .before .before .before .before .before .before .pre .1) (c .before .before .before .before .before .before .before .pre .2) (c .before .if1 .taken))), refl)
 
 same-length : tie.Need-same-length
 same-length c = search needs

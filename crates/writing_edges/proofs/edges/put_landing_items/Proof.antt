@@ -1,4 +1,5 @@
 -- `writing_edges::edges::put_landing_items` meets its contract.
+use mathlib.Core.Path.{refl}
 use Rattle.writing_edges.specs.Edges.{passing, landingJump}
 use Rattle.writing.specs.declared.parts.Part.the-variants as part
 use Rattle.writing.specs.Wrote.{first-fits, written-le, next-fits, both-le, wrote-then}
@@ -11,7 +12,7 @@ add-put-parts : tie.Need-add-put-parts
 add-put-parts c = search needs
 
 put-parts-requires : tie.Need-put-parts-requires
-put-parts-requires c κs = (c .before .before .before .before .before .pre .0, omega (arith, c .before .before .before .before .before .pre .1), c .before .before .before .before .before .pre .2, first-fits (passing (c .before .before .before .before .before .args .s .now) (c .before .before .before .before .before .args .numbers .now) (c .before .before .before .before .before .args .slots .now) part.PassedLoad (c .before .before .before .before .before .args .p) (c .before .before .before .before .before .args .end)) (landingJump (c .before .before .before .before .before .args .s .now) (c .before .before .before .before .before .args .numbers .now) (c .before .before .before .before .before .args .slots .now) (c .before .before .before .before .before .args .p) (c .before .before .before .before .before .args .end)) (c .before .before .before .before .before .args .out .now) (c .before .before .before .before .before .pre .3))
+put-parts-requires c κs = (c .before .before .before .before .before .pre .0, omega (arith, c .before .before .before .before .before .pre .1), c .before .before .before .before .before .pre .2, first-fits (passing (c .before .before .before .before .before .args .s .now) (c .before .before .before .before .before .args .numbers .now) (c .before .before .before .before .before .args .slots .now) part.PassedLoad (c .before .before .before .before .before .args .p) (c .before .before .before .before .before .args .end)) (landingJump (c .before .before .before .before .before .args .s .now) (c .before .before .before .before .before .args .numbers .now) (c .before .before .before .before .before .args .slots .now) (c .before .before .before .before .before .args .p) (c .before .before .before .before .before .args .end)) (c .before .before .before .before .before .args .out .now) (c .before .before .before .before .before .pre .3), refl)
 
 sub-put-landing-jump : tie.Need-sub-put-landing-jump
 sub-put-landing-jump c = let l = written-le (c .before .before .put-parts .ensures) (landingJump (c .before .before .before .before .before .before .before .before .args .s .now) (c .before .before .before .before .before .before .before .before .args .numbers .now) (c .before .before .before .before .before .before .before .before .args .slots .now) (c .before .before .before .before .before .before .before .before .args .p) (c .before .before .before .before .before .before .before .before .args .end)) (c .before .before .before .before .before .before .before .before .pre .3) in omega arith

@@ -1,4 +1,5 @@
 -- `writing_instructions::instructions::put_exits` meets its contract.
+use mathlib.Core.Path.{refl}
 use Rattle.writing_instructions.specs.Runs.{partsRun, edgesRun}
 use Rattle.writing_edges.specs.declared.edges.EdgePart.the-variants as edge
 use Rattle.writing.specs.declared.parts.Part.the-variants as part
@@ -46,7 +47,7 @@ put-parts-requires c κs =
     let h2 = c .before .before .before .before .before .before .before .before .before .pre .3 in
     let h1 = first-fits b1 b2 (c .before .before .before .before .before .before .before .before .before .args .out .now) h2 in
     let w1 = c .before .before .before .put-edges .ensures in
-    (c .before .before .before .before .before .before .before .before .before .pre .0, c .before .before .before .before .before .before .before .before .before .pre .1, c .before .before .before .before .before .before .before .before .before .pre .2, next-fits w1 b2 h2)
+    (c .before .before .before .before .before .before .before .before .before .pre .0, c .before .before .before .before .before .before .before .before .before .pre .1, c .before .before .before .before .before .before .before .before .before .pre .2, next-fits w1 b2 h2, refl)
 
 add-result : tie.Need-add-result
 add-result c =

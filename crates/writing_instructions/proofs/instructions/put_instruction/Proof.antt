@@ -1,4 +1,5 @@
 -- `writing_instructions::instructions::put_instruction` meets its contract.
+use mathlib.Core.Path.{refl}
 use Prim.Native.Nat.{_+_}
 use Rattle.rows.specs.Rows.{rows}
 use Rattle.writing_instructions.specs.Runs.{partsRun, loadsRun, itselfRun, instructionRun}
@@ -120,7 +121,7 @@ put-parts-requires c κs =
     let h1 = first-fits b1 b2 (c .before .before .before .before .before .before .before .before .before .before .before .before .before .before .args .out .now) h2 in
     let w1 = c .before .before .before .before .before .before .before .put-loads .ensures in
     let w2 = wrote-then w1 (written-le w1 b2 h2) (c .before .before .before .put-itself .ensures) in
-    (c .before .before .before .before .before .before .before .before .before .before .before .before .before .before .pre .0, omega (arith, c .before .before .before .before .before .before .before .before .before .before .before .before .before .before .pre .1), c .before .before .before .before .before .before .before .before .before .before .before .before .before .before .pre .2, next-fits w2 b3 h3)
+    (c .before .before .before .before .before .before .before .before .before .before .before .before .before .before .pre .0, omega (arith, c .before .before .before .before .before .before .before .before .before .before .before .before .before .before .pre .1), c .before .before .before .before .before .before .before .before .before .before .before .before .before .before .pre .2, next-fits w2 b3 h3, refl)
 
 add-result : tie.Need-add-result
 unfolding instructionRun

@@ -1,4 +1,5 @@
 -- `writing_instructions::instructions::put_loads` meets its contract.
+use mathlib.Core.Path.{refl}
 use Rattle.writing_instructions.specs.Runs.{partsRun, edgesRun}
 use Rattle.writing_edges.specs.declared.edges.EdgePart.the-variants as edge
 use Rattle.writing.specs.declared.parts.Part.the-variants as part
@@ -16,7 +17,7 @@ put-parts-requires c κs =
     let b2 : List Record = edgesRun (c .before .before .before .before .before .args .s .now) (c .before .before .before .before .before .args .numbers .now) (c .before .before .before .before .before .args .slots .now) edge.Loads (c .before .before .before .before .before .args .from) (c .before .before .before .before .before .args .end) in
     let h2 = c .before .before .before .before .before .pre .3 in
     let h1 = first-fits b1 b2 (c .before .before .before .before .before .args .out .now) h2 in
-    (c .before .before .before .before .before .pre .0, c .before .before .before .before .before .pre .1, c .before .before .before .before .before .pre .2, h1)
+    (c .before .before .before .before .before .pre .0, c .before .before .before .before .before .pre .1, c .before .before .before .before .before .pre .2, h1, refl)
 
 sub-put-edges : tie.Need-sub-put-edges
 sub-put-edges c =

@@ -1,4 +1,5 @@
 -- `writing_instructions::instructions::put_operands` meets its contract.
+use mathlib.Core.Path.{refl}
 use Rattle.writing_instructions.specs.Runs.{partsRun}
 use Rattle.writing.specs.declared.parts.Part.the-variants as part
 use Rattle.writing.specs.Wrote.{first-fits, written-le, next-fits, both-le, wrote-then}
@@ -15,7 +16,7 @@ put-parts-requires c κs =
     let b2 : List Record = partsRun (c .before .before .before .before .before .args .s .now) (c .before .before .before .before .before .args .numbers .now) (c .before .before .before .before .before .args .slots .now) 5 part.Result (c .before .before .before .before .before .args .from) (c .before .before .before .before .before .args .end) in
     let h2 = c .before .before .before .before .before .pre .3 in
     let h1 = first-fits b1 b2 (c .before .before .before .before .before .args .out .now) h2 in
-    (c .before .before .before .before .before .pre .0, c .before .before .before .before .before .pre .1, c .before .before .before .before .before .pre .2, h1)
+    (c .before .before .before .before .before .pre .0, c .before .before .before .before .before .pre .1, c .before .before .before .before .before .pre .2, h1, refl)
 
 sub-put-parts : tie.Need-sub-put-parts
 sub-put-parts c =
@@ -45,7 +46,7 @@ put-parts-requires-2 c κs =
     let h2 = c .before .before .before .before .before .before .before .before .before .pre .3 in
     let h1 = first-fits b1 b2 (c .before .before .before .before .before .before .before .before .before .args .out .now) h2 in
     let w1 = c .before .before .before .put-parts .ensures in
-    (c .before .before .before .before .before .before .before .before .before .pre .0, c .before .before .before .before .before .before .before .before .before .pre .1, c .before .before .before .before .before .before .before .before .before .pre .2, next-fits w1 b2 h2)
+    (c .before .before .before .before .before .before .before .before .before .pre .0, c .before .before .before .before .before .before .before .before .before .pre .1, c .before .before .before .before .before .before .before .before .before .pre .2, next-fits w1 b2 h2, refl)
 
 add-result : tie.Need-add-result
 add-result c =
