@@ -1,19 +1,19 @@
 // How many records the rewritten function has, from the numbers planned for it and before anything is written.
 ghost use mathlib.Core.Path.{_≡_};
+ghost use mathlib.Core.Bool.{true};
 ghost use Prim.Native.Nat.{_*_, _≤_, _<_};
 ghost use lib.ListN.{length};
 ghost use Rattle.rules.specs.Lists.{upFrom};
 ghost use Rattle.rules.specs.Limits.{rowWords, largestRecords, largestBlocks, largestInstructions};
-ghost use Rattle.rules.specs.Records.{recordCount};
-ghost use Rattle.rules.specs.File.{functionIn};
+ghost use Rattle.rules.specs.Records.{recordCount, records};
+ghost use Rattle.rules.specs.File.{ordered, functionIn};
 ghost use Rattle.fixpoint.specs.Sums.{sum};
 ghost use Rattle.graph.specs.Between.{between};
 ghost use Rattle.rows.specs.Rows.{rows, size};
 ghost use Rattle.listing.specs.Tables.{IndexTables};
 ghost use Rattle.counting.specs.Weights.{weight, weighed, besideRecords};
 ghost use Rattle.counting.specs.Totals.{blockAdded};
-use records::kind_of;
-use records::record_at;
+use records::in_order::kind_at;
 use rows::count;
 
 // What the tag beside a record of a kind adds.
@@ -35,13 +35,13 @@ fn weight_of(kind: u32, tag: u32) -> usize
 
 // What the tags from a place on and before place end add.
 fn count_between(s: &[u8], numbers: &[u32], start: usize, end: usize) -> usize
-    requires { ⌜ (start ≤ end) × (end ≤ recordCount (now s)) × (end ≤ length (now numbers)) × (end ≤ largestRecords) ⌝ }
+    requires { ⌜ (start ≤ end) × (end ≤ recordCount (now s)) × (end ≤ length (now numbers)) × (end ≤ largestRecords) × (ordered 0 (records (now s)) ≡ true) ⌝ }
     ensures { λ r. ⌜ (r ≡ weighed (besideRecords (now (numbers .entry))) start (between (now (s .entry)) start end)) × (r ≤ 3 * largestRecords) ⌝ }
 {
     let mut found: usize = 0;
     let mut i = start;
     while i < end {
-        found += weight_of(kind_of(record_at(s, i)), numbers[i]);
+        found += weight_of(kind_at(s, i), numbers[i]);
         i += 1;
     }
     found

@@ -2,6 +2,9 @@
 use mathlib.Core.Path.{_∙_}
 use native.Mathlib.Omega.{arith}
 use borrow.Author.Needs.{needs}
+use Rattle.rules.specs.Records.{records}
+use Rattle.rules.specs.File.{ordered}
+use Rattle.lists.specs.Tests.{is-true}
 use Rattle.graph.specs.ByTable.{places-long, end-le, start-less}
 use Rattle.counting.proofs.Blocks.{added-none, added-some}
 use Rattle.counting.proofs.count_block.Statement.{statement}
@@ -45,7 +48,7 @@ count-between-requires : tie.Need-count-between-requires
 count-between-requires c κs =
     let A = c .before .before .before .before .before .before .before .before .args in
     let end = end-le (A.s .now) (A.places .now) (c .before .before .before .before .before .before .before .before .pre .0 .given) A.b (c .before .before .before .before .before .before .before .before .pre .1) in
-    (start-less (A.s .now) (A.places .now) (c .before .before .before .before .before .before .before .before .pre .0 .given) A.b (c .before .before .before .before .before .before .before .before .pre .1), end, omega (arith, end, c .before .before .before .before .before .before .before .before .pre .2), omega (arith, end, c .before .before .before .before .before .before .before .before .pre .3))
+    (start-less (A.s .now) (A.places .now) (c .before .before .before .before .before .before .before .before .pre .0 .given) A.b (c .before .before .before .before .before .before .before .before .pre .1), end, omega (arith, end, c .before .before .before .before .before .before .before .before .pre .2), omega (arith, end, c .before .before .before .before .before .before .before .before .pre .3), is-true (ordered 0 (records (A.s .now))) (c .before .before .before .before .before .before .before .before .pre .0 .given .inOrder))
 
 returns-2 : tie.Need-returns-2
 returns-2 c =
