@@ -4,7 +4,6 @@ use Prim.Native.Nat.{_≤_, _-_, ℕ, _+_}
 use mathlib.Core.Path.{_≡_, refl, sym, ap, _∙_}
 use native.Mathlib.Omega.{arith}
 use Rattle.rules.specs.declared.Words.{Words}
-use Rattle.rules.specs.Records.{kind}
 use Rattle.graph.specs.NextEdge.{edgeFrom}
 use Rattle.graph.proofs.Looking.{edgeFrom-here, edgeFrom-later, edgeFrom-end}
 use Rattle.graph.proofs.edges.next_edge.Statement.{statement}
