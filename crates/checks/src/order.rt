@@ -3,9 +3,11 @@ ghost use mathlib.Core.Path.{_≡_};
 ghost use Prim.Native.Nat.{_<_};
 ghost use mathlib.Core.Bool.{true, not, _&&_, _||_};
 ghost use lib.Dec.{eqb};
+ghost use lib.ListN.{getD};
 ghost use Rattle.rules.specs.Records.{records};
 ghost use Rattle.rules.specs.File.{follows, ordered, functionIn};
 ghost use Rattle.rules.specs.Refusals.{numberedFrom};
+ghost use Rattle.checks.specs.Order.{followerBits};
 use crate::counts::one_if_same;
 use records::in_order::words_at;
 use records::kind_of;
@@ -15,32 +17,30 @@ use rules::Words;
 
 // The kinds that may stand behind a kind, kind k at bit k; row 0 is the start of the file, and behind an output's kinds
 // nothing may stand.
-const FOLLOWERS: [u32; 16] = [
-    0b0000000110,
-    0b0000000110,
-    0b0000011000,
-    0b0000011000,
-    0b1011110100,
-    0b1010110100,
-    0b1011110100,
-    0b1110010100,
-    0b1110010100,
-    0b1000010100,
-    0,
-    0,
-    0,
-    0,
-    0,
-    0,
-];
+fn followers_of(p: u32) -> u32
+    ensures { λ r. ⌜ r ≡ getD followerBits p 0 ⌝ }
+{
+    match p {
+        0 => 0b0000000110,
+        1 => 0b0000000110,
+        2 => 0b0000011000,
+        3 => 0b0000011000,
+        4 => 0b1011110100,
+        5 => 0b1010110100,
+        6 => 0b1011110100,
+        7 => 0b1110010100,
+        8 => 0b1110010100,
+        9 => 0b1000010100,
+        _ => 0,
+    }
+}
 
 // Whether kind k may stand behind kind p, 0 for the start of the file.
 fn may_follow(p: u32, k: u32) -> bool
     requires { ⌜ (p < 16) × (k < 16) ⌝ }
     ensures { λ r. ⌜ r ≡ follows p k ⌝ }
 {
-    let row = FOLLOWERS[p as usize];
-    (row >> k) % 2 == 1
+    (followers_of(p) >> k) % 2 == 1
 }
 
 // Whether the records of a file are in order.

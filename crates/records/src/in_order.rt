@@ -27,12 +27,12 @@ pub fn words_at(s: &[u8], k: usize) -> Words
     requires { ⌜ (k < recordCount (now s)) × (ordered 0 (records (now s)) ≡ true) ⌝ }
     ensures { λ w. ⌜ w ≡ encode (recordAt (now (s .entry)) k) ⌝ }
 {
-    let i = RECORD_BYTES * k;
+    let at = RECORD_BYTES * k;
     words(
-        word_at(s, i),
-        word_at(s, i + 4),
-        word_at(s, i + 8),
-        word_at(s, i + 12),
+        word_at(s, at),
+        word_at(s, at + 4),
+        word_at(s, at + 8),
+        word_at(s, at + 12),
     )
 }
 

@@ -6,8 +6,8 @@ use borrow.Author.Needs.{needs}
 use Rattle.records.proofs.in_order.words_at.Statement.{statement}
 use Rattle.records.proofs.in_order.words_at.Tie as tie
 
-mul-i : tie.Need-mul-i
-mul-i c = search needs
+mul-at : tie.Need-mul-at
+mul-at c = search needs
 
 word-at-requires : tie.Need-word-at-requires
 word-at-requires c κs = search needs
@@ -41,7 +41,7 @@ pub words-at-spec : {M : Type 1} → statement M
 words-at-spec =
     tie.close
     (tie.spec
-    mul-i
+    mul-at
     word-at-requires
     add-word-at
     word-at-requires-2
