@@ -22,8 +22,8 @@ oracle library [--files N] [--seed S]   the library written in Rattle: replays t
                                         what it makes of them (feature `library`)
 oracle guarded [--files N] [--seed S]   the same services between guard pages, with all lent lengths around each boundary, on N
                                         generated files (feature `library`)
-oracle program PATH [--files N] [--seed S]   the program at PATH: the sheets, the boundaries, N generated files and the fixed
-                                        list's on its standard input, with a small stack";
+oracle program PATH [--files N] [--seed S]   the program at PATH: the sheets, the boundaries, the fixed list's files and N
+                                        generated ones on its standard input, with a small stack, and the list's own lines";
 
 /// Where the list stands, from the package's folder or from the repository's.
 const LISTS: [&str; 2] = ["fixed/answers.txt", "oracle/fixed/answers.txt"];

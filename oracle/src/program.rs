@@ -1,6 +1,7 @@
 //! The program from outside: files on its standard input, what it writes held against the decision's.
 
 use crate::decision::{Decision, program as written};
+use crate::fixed;
 use crate::generate::file;
 use crate::record::{RECORD_BYTES, Record, bytes, kind, largest, parse};
 use crate::services::Services;
@@ -38,7 +39,7 @@ fn with_output_of(decision: &mut Decision, count: u64) -> Vec<u8> {
     bytes(&list)
 }
 
-/// The sheets, the lengths around the largest input and output, and generated files.
+/// The sheets, the lengths around the largest input and output, the fixed list's files, and generated ones.
 fn all(decision: &mut Decision, files: u64, seed: u64) -> Vec<Asked> {
     let mut all: Vec<Asked> = SHEETS.iter().map(|sheet| asked(sheet.name, bytes(&parse(sheet.file)))).collect();
     let records = (OUTPUT / RECORD_BYTES) as u64;
@@ -47,6 +48,7 @@ fn all(decision: &mut Decision, files: u64, seed: u64) -> Vec<Asked> {
     all.push(asked("32,768 bytes of nothing known", vec![7; INPUT]));
     all.push(asked("32,769 bytes", vec![7; INPUT + 1]));
     all.push(asked("100,000 bytes", vec![0; 100_000]));
+    all.extend(fixed::cases().into_iter().map(|case| asked(case.note, case.file)));
     all.extend((0..files).map(|number| asked(format!("file {number} of seed {seed}"), file(seed, number).bytes)));
     all
 }

@@ -1,8 +1,8 @@
 //! The fixed list as committed: the same bytes when made again, true when replayed, and its notes mean what they say.
 
 use oracle::compare::against_module;
-use oracle::decision::Decision;
-use oracle::fixed::{cases, replay, write};
+use oracle::decision::{Decision, program};
+use oracle::fixed::{cases, replay, replay_program, write};
 use oracle::services::{ListAnswer, LivenessAnswer, Part, RewriteAnswer, Services};
 use oracle::source::Module;
 
@@ -19,6 +19,18 @@ fn replayed_it_is_true() {
     let replayed = replay(LIST, &mut Decision::default()).unwrap();
     assert_eq!(replayed.files, cases().len() as u64);
     assert!(replayed.files >= 300);
+}
+
+#[test]
+fn the_programs_lines_are_true_and_are_looked_at() {
+    assert_eq!(replay_program(LIST, |file| Ok(program(file))), Ok(cases().len() as u64));
+    let longer = |file: &[u8]| Ok([program(file), vec![0]].concat());
+    assert!(replay_program(LIST, longer).is_err());
+    let blanks =
+        |file: &[u8]| Ok(String::from_utf8_lossy(&program(file)).replace("refused ", "refused  ").into_bytes());
+    assert!(replay_program(LIST, blanks).is_err());
+    let half = &LIST[..LIST[..LIST.len() / 2].rfind('\n').unwrap()];
+    assert!(replay_program(half, |file| Ok(program(file))).is_err());
 }
 
 #[test]

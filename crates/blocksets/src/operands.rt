@@ -2,7 +2,7 @@
 // defined does not stay so.
 ghost use mathlib.Core.Path.{_≡_};
 ghost use mathlib.Core.List.{_∷_, []};
-ghost use Prim.Native.Nat.{_<_, _≤_, _^_};
+ghost use Prim.Native.Nat.{_≤_};
 ghost use lib.Dec.{T};
 ghost use Rattle.rules.specs.Lists.{keep, update, adding};
 ghost use Rattle.rules.specs.Records.{recordCount};

@@ -12,6 +12,7 @@ use rules::LARGEST_RECORDS;
 use rules::LARGEST_VALUES;
 use rules::RECORD_BYTES;
 
+// What a record counts for: 1 where its kind is the one that is counted.
 pub fn one_if_same(a: u32, b: u32) -> usize
     ensures { λ r. ⌜ r ≡ bit (eqb a b) ⌝ }
 {

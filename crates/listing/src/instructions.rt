@@ -3,10 +3,8 @@
 ghost use mathlib.Core.Path.{_≡_};
 ghost use mathlib.Core.Bool.{cond, true};
 ghost use mathlib.Core.Option.{none, some};
-ghost use Prim.Native.Nat.{_*_, _<_, _≤_};
-ghost use lib.ListN.{length};
+ghost use Prim.Native.Nat.{_<_, _≤_};
 ghost use lib.Dec.{T};
-ghost use Rattle.rules.specs.Limits.{rowWords};
 ghost use Rattle.rules.specs.Lists.{update};
 ghost use Rattle.rules.specs.Records.{encode, isSafepoint, recordAt, recordCount, records};
 ghost use Rattle.rules.specs.File.{instructionOf, functionIn, ordered};

@@ -6,6 +6,8 @@ use mathlib.Core.Bool.{false}
 use mathlib.Core.List.{List}
 use native.Mathlib.Omega.{arith}
 use lib.ListN.{getD, replicate}
+use lib.Dec.{eqb}
+use Rattle.rules.specs.Lists.{count}
 use Rattle.rules.specs.Records.{decode, recordAt, records, firstWords, bytes}
 use Rattle.rules.specs.File.{followers, follows, function, functionRecords}
 use Rattle.rules.specs.Graph.{reachable}
@@ -64,11 +66,11 @@ module _ (answer : RewritingAnswer) (out : List ℕ) where
       p2 rewritingAnswer rewritingVerdict recordsOf fileRefusals decode recordAt records firstWords followers follows function functionRecords reachable process listsOf isSpilled giveSlot freeSlot planned rewritten
   visits-counted h = (ap (λ (a : RewritingAnswer). a .visits) (h .0), ap (λ (a : RewritingAnswer). a .pushes) (h .0))
 
-  -- P5's maps do not list every marked value: with those entries it would have more records
-  pub not-all-in-maps : RewritingAllows (file p5) 8 lent answer out → answer .records ≡ 38
+  -- P5's maps do not list every marked value: they have two entries together
+  pub not-all-in-maps : RewritingAllows (file p5) 8 lent answer out → count (eqb 11) (firstWords out) ≡ 2
   unfolding
-      p5 rewritingAnswer rewritingVerdict recordsOf fileRefusals decode recordAt records firstWords followers follows function functionRecords reachable process listsOf isSpilled giveSlot freeSlot planned rewritten
-  not-all-in-maps h = ap (λ (a : RewritingAnswer). a .records) (h .0)
+      p5 rewritingOutput rewritingVerdict recordsOf fileRefusals decode recordAt records firstWords bytes followers follows function functionRecords reachable process listsOf isSpilled giveSlot freeSlot planned rewritten
+  not-all-in-maps h = ap (λ (xs : List ℕ). count (eqb 11) (firstWords xs)) (h .1)
 
   -- P3's two values share a slot
   pub slots-shared : RewritingAllows (file p3) 8 lent answer out → answer .slots ≡ 1

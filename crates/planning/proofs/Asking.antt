@@ -13,7 +13,7 @@ use Rattle.rules.specs.Lists.{isNone, update, NumberSet, adding}
 use Rattle.rules.specs.Tree.{Value, Function}
 use Rattle.rules.specs.Graph.{sizeOf}
 use Rattle.rules.specs.Slots.{StackSlots, noSlots, giveSlot, slotFrom}
-use Rattle.lists.specs.Tests.{or-left, or-right}
+use Rattle.lists.specs.Tests.{or-left, or-right, is-true}
 use Rattle.lists.specs.Maps.{map-append}
 use Rattle.lists.specs.Lack.{lack, one, lack-drop}
 use Rattle.sharing.specs.SlotSteps.{SlotStep, gives, frees, taken, replayed, replayed-append}
@@ -107,6 +107,14 @@ module _ (v : ℕ) (low : v < rowValues) (asked steps : List ℕ) (n k : ℕ) (r
             let row : rows asked′ 0 ≡ adding (v ∷ []) (rows asked 0) =
             ap (λ (r : ℕ → NumberSet). r 0) (a .row ∙ ap (λ b. cond b (rows asked) (update 0 (adding (v ∷ []) (rows asked 0)) (rows asked))) e) in
             rw row (omega (arith, count, room, a .stepsLong, asking-drop e))
+
+    -- nobody who was asked for is forgotten,
+    pub asked-grows : (w : ℕ) → rows asked 0 w ≡ true → rows asked′ 0 w ≡ true
+    asked-grows w h = ap (λ (r : ℕ → NumberSet). r 0 w) (a .row) ∙ go (rows asked 0 v)
+      where
+        go : (b : Bool) → cond b (rows asked) (update 0 (adding (v ∷ []) (rows asked 0)) (rows asked)) 0 w ≡ true
+        go true = h
+        go false = ap (λ b. (eqb w v || false) || b) h ∙ is-true ((eqb w v || false) || true) (or-right (eqb w v || false) true tt)
 
     module _ (f : Function) (known : Known f asked steps n) where
       abbrev slots : StackSlots

@@ -2,7 +2,7 @@
 -- the file's and the new ones. Every function says what it does as one step of the rules' planning, `Ran`.
 use Prim.Native.Nat.{ℕ, zero, suc, _+_, _*_, _/_, _%_, _<_, _≤_}
 use mathlib.Core.Path.{_≡_}
-use mathlib.Core.Bool.{not, cond}
+use mathlib.Core.Bool.{true, not, cond}
 use mathlib.Core.Option.{none, some}
 use mathlib.Core.List.{List, [], _∷_, _++_, map}
 use lib.ListN.{length, set, take}
@@ -118,6 +118,7 @@ pub record Slotting (rest all asked steps : List ℕ) (count : ℕ) (asked′ st
   pub slots : (f : Function) → Known f asked steps count → giveAll f rest (slotsBy f steps′ count′) ≡ giveAll f all (slotsBy f steps count)
   pub known : (f : Function) → Known f asked steps count → Known f asked′ steps′ count′
   pub room : (k : ℕ) → count + lack one rowValues (rows asked 0) + k ≤ length steps → count′ + lack one rowValues (rows asked′ 0) + k ≤ length steps′
+  pub grows : (v : ℕ) → rows asked 0 v ≡ true → rows asked′ 0 v ≡ true
   pub askedLong : length asked′ ≡ length asked
   pub stepsLong : length steps′ ≡ length steps
 

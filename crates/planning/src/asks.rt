@@ -5,7 +5,9 @@ ghost use Rattle.rows.specs.Rows.{rows, rowValues};
 ghost use Rattle.planning.specs.Standing.{Slotted, spilledFrom, Rows};
 use crate::steps::ask;
 use rows::contains;
+use rows::copy_without;
 use rows::next_in;
+use rules::ROW_WORDS;
 
 // A slot for a value, if it is spilled and in the row.
 fn ask_spilled(
@@ -29,7 +31,7 @@ fn ask_spilled(
     ask(v, asked, steps, count)
 }
 
-// A slot for each of the file's values that is.
+// A slot for each of the file's values that is. Those that were asked for before are passed over.
 pub fn ask_all(
     spilled: &[u64],
     set: &[u64],
@@ -42,11 +44,13 @@ pub fn ask_all(
     requires { ⌜ Rows (now spilled) (now set) row (now asked) (now steps) count × (values ≤ rowValues) ⌝ }
     ensures { λ r. ⌜ Slotted (keep (rows (now (spilled .entry)) 0) (members values (rows (now (set .entry)) row))) (now (asked .entry)) (now (steps .entry)) count (now (asked .exit)) (now (steps .exit)) r ⌝ }
 {
+    let mut new: [u64; ROW_WORDS] = [0; ROW_WORDS];
+    copy_without(&mut new, 0, set, row, asked, 0);
     let mut found = count;
-    let mut v: usize = 0;
+    let mut v = next_in(&new, 0, 0, values);
     while v < values {
         found = ask_spilled(spilled, set, row, v, asked, steps, found);
-        v = next_in(set, row, v + 1, values);
+        v = next_in(&new, 0, v + 1, values);
     }
     found
 }

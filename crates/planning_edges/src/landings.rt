@@ -42,7 +42,7 @@ fn is_word_argument(x: EdgeArgument) -> bool
     }
 }
 
-// Whether a record is an edge argument that is one.
+// Whether a record is an edge argument that is a returned or an exception word.
 fn passes_word(r: Record) -> bool
     ensures { λ b. ⌜ b ≡ isWord (encode r) ⌝ }
 {
@@ -52,7 +52,7 @@ fn passes_word(r: Record) -> bool
     }
 }
 
-// Whether the record at a place is.
+// Whether the record at a place is such an edge argument.
 fn is_word(s: &[u8], place: usize) -> bool
     requires { ⌜ (place < recordCount (now s)) × (ordered 0 (records (now s)) ≡ true) ⌝ }
     ensures { λ r. ⌜ r ≡ isWord (encode (recordAt (now (s .entry)) place)) ⌝ }

@@ -1,22 +1,22 @@
 -- A value's size and mark are words of its own record: values stand first in a file in order.
-use Prim.Native.Nat.{ℕ, zero, suc, _+_, _*_, _<_, _≤_}
+use Prim.Native.Nat.{ℕ, zero, suc, _+_, _*_, _<_}
 use mathlib.Core.Path.{_≡_, refl, sym, ap, subst, _∙_}
-use mathlib.Core.Bool.{Bool, true, false, not, _&&_, _||_, cond}
+use mathlib.Core.Bool.{Bool, true, false, not, _||_}
 use mathlib.Core.List.{List, [], _∷_, map}
 use native.Mathlib.Omega.{arith}
-use lib.ListN.{length, getD, drop, List·getD-eq-default}
-use lib.Dec.{T, T-not, leb, ltb, eqb, eqb→eq, ltb→lt, nltb→le}
+use lib.ListN.{length, getD}
+use lib.Dec.{T, T-not, ltb, eqb, eqb→eq, ltb→lt, nltb→le}
 use Rattle.rules.specs.Limits.{recordBytes}
 use Rattle.rules.specs.Lists.{all, has}
 use Rattle.rules.specs.Tree.{Value}
-use Rattle.rules.specs.Records.{wordAt, slotSizes, log2, isSafepoint, isTerminator, edgeArgument, encode, kind, decode, recordAt, recordCount, eachFrom, records}
+use Rattle.rules.specs.Records.{wordAt, encode, kind, recordAt, recordCount, records}
 use Rattle.rules.specs.File.{followers, follows, ordered, ofKind, function, functionIn}
 use Rattle.rules.specs.Graph.{valueAt, sizeOf, isMarked}
 use Rattle.rules.specs.declared.Words.{Words}
 use Rattle.rules.specs.declared.Record.{Record}
 use Rattle.rules.specs.declared.Record.the-variants as record′
 use Rattle.lists.specs.Tests.{test-elim, and-left, and-right, and-intro, or-elim, or-left, passes-at, chosen, left-out}
-use Rattle.records.specs.Kinds.{Kinds, kind-edgeArgument, ofKind-none}
+use Rattle.records.specs.Kinds.{Kinds, ofKind-none}
 use Rattle.records.specs.Places.{record-there, record-beyond}
 use Rattle.records.specs.InTable.{words-at}
 use Rattle.records.specs.InOrder.{chain, ordered-chain, keptBy, chain-good}

@@ -205,6 +205,7 @@ fn words_of_argument(x: EdgeArgument) -> Words
     }
 }
 
+// Four words, as one.
 pub fn words(kind: u32, second: u32, third: u32, fourth: u32) -> Words
     ensures { λ w. ⌜ w ≡ wordsAre kind second third fourth ⌝ }
 {

@@ -29,6 +29,10 @@ HasRow t row = rowWords * row + rowWords ≤ length t
 abbrev pub byRule : NumberSet → NumberSet → NumberSet → NumberSet
 byRule uses kills out v = uses v || (out v && not (kills v))
 
+-- a set without another
+abbrev pub minus : NumberSet → NumberSet → NumberSet
+minus a b v = a v && not (b v)
+
 module _ (t : List ℕ) (row : ℕ) where
   -- a value that a row has a bit for is in its set if that bit is one,
   pub rows-word : (v : ℕ) → v < rowValues → rows t row v ≡ bitAt (getD t (rowWords * row + v / 64) 0) (v % 64)

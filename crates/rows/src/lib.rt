@@ -6,7 +6,7 @@ ghost use mathlib.Core.List.{_∷_, []};
 ghost use Prim.Native.Nat.{ℕ, _+_, _/_, _%_, _^_, _<_, _≤_, min};
 ghost use Rattle.rules.specs.Lists.{update, union, adding, removing};
 ghost use Rattle.rows.specs.Bits.{bitAt};
-ghost use Rattle.rows.specs.Rows.{rows, rowValues, HasRow, byRule, size};
+ghost use Rattle.rows.specs.Rows.{rows, rowValues, HasRow, byRule, size, minus};
 use rules::ROW_WORDS;
 
 // The bits of a word, and of a row.
@@ -71,6 +71,35 @@ pub fn copy_row(to: &mut [u64], row: usize, from: &[u64], other: usize)
     let mut k = 0;
     while k < ROW_WORDS {
         to[at + k] = from[source + k];
+        k += 1;
+    }
+}
+
+// A word's bits without those of another.
+fn word_without(a: u64, b: u64) -> u64
+    ensures { λ r. ⌜ ((i : ℕ) → i < 64 → bitAt r i ≡ (bitAt a i && not (bitAt b i))) ⌝ }
+{
+    a & !b
+}
+
+// A row becomes what a row of another table is, without what a row of a third one has.
+pub fn copy_without(
+    to: &mut [u64],
+    row: usize,
+    from: &[u64],
+    other: usize,
+    less: &[u64],
+    third: usize,
+)
+    requires { ⌜ HasRow (now to) row × HasRow (now from) other × HasRow (now less) third ⌝ }
+    ensures { λ _. ⌜ rows (now (to .exit)) ≡ update row (minus (rows (now (from .entry)) other) (rows (now (less .entry)) third)) (rows (now (to .entry))) ⌝ }
+{
+    let at = ROW_WORDS * row;
+    let source = ROW_WORDS * other;
+    let taken = ROW_WORDS * third;
+    let mut k = 0;
+    while k < ROW_WORDS {
+        to[at + k] = word_without(from[source + k], less[taken + k]);
         k += 1;
     }
 }

@@ -22,7 +22,7 @@ use Rattle.numbering.specs.Beside.{tag}
 use Rattle.holders.specs.declared.Holder.{Holder}
 use Rattle.holders.specs.Table.{nobody, takenBy, givenBack, changed, changeOf}
 use Rattle.stackslots.specs.Tables.{newSlot, slotsAfter, placed}
-use Rattle.stackslots.specs.HolderSteps.{slotGiven, changed-even, changed-odd, made-low, holdersBy, holders-long, holders-kept, sizeAt, place-given, place-freed}
+use Rattle.stackslots.specs.HolderSteps.{slotGiven, changed-even, changed-odd, made-low, holdersBy, holders-long, holders-kept, sizeAt, slots-given, place-given, place-freed}
 
 -- a slot that is held is its owner's
 abbrev pub Owned : List Holder → StackSlots → Type 0
@@ -111,6 +111,11 @@ blank-owned n k held = absurd (subst (λ (x : Holder). T (x .held)) (blank n k) 
     blank (suc n) zero = refl
     blank (suc n) (suc k) = blank n k
 
+-- a slot that is newly had is had
+given-now : (before now : Option ℕ) (slot : ℕ) → newSlot before now ≡ some slot → now ≡ some slot
+given-now none now slot e = e
+given-now (some _) now slot e = absurd (Option·none-ne-some slot e)
+
 -- ALL STEPS, where each one's place is the slot that it is about.
 module _ (s steps places : List ℕ) (count : ℕ) (inSteps : count ≤ length steps)
     (found : (i : ℕ) → i < count → getD places i 0 ≡ tag (placed s steps i)) (good : (i : ℕ) → i ≤ count → SlotsGood rowValues (slotsAfter s steps i)) where
@@ -129,12 +134,16 @@ module _ (s steps places : List ℕ) (count : ℕ) (inSteps : count ≤ length s
     was = slotsAfter s steps i
 
     -- A step that gives its value a slot leaves it held, by that value,
-    pub holders-given : eqb (step % 2) 0 ≡ true → (slot : ℕ) → slotGiven (step / 2) (sizeAt s steps i) was ≡ some slot → slot < rowValues
+    pub holders-given : eqb (step % 2) 0 ≡ true → (slot : ℕ) → slotGiven (step / 2) (sizeAt s steps i) was ≡ some slot
         → (getD (holders (suc i)) slot nobody .owner ≡ step / 2) × (getD (holders (suc i)) slot nobody .held ≡ true)
-    holders-given even slot new low =
+    holders-given even slot new =
         let size = sizeAt s steps i in
         let place : getD places i 0 ≡ suc slot = place-given s steps places count inSteps found good i le even ∙ ap tag new in
         let h = takenBy (getD (holders i) slot nobody) (step / 2) size in
+        let has : slotsAfter s steps (suc i) .slotOf (step / 2) ≡ some slot =
+        ap (λ (p : StackSlots). p .slotOf (step / 2)) (slots-given s steps places count inSteps found good i le even)
+        ∙ given-now (was .slotOf (step / 2)) (giveSlot (step / 2) size was .slotOf (step / 2)) slot new in
+        let low = made-low (good (suc i) le) slot (good (suc i) le .given (step / 2) slot has) in
         let e : getD (holders (suc i)) slot nobody ≡ h =
         ap (λ k. getD (changed (changeOf step k size) (holders i)) slot nobody) place
         ∙ ap (λ (t : List Holder). getD t slot nobody) (changed-even step slot size (holders i) even)

@@ -72,7 +72,8 @@ pub fn replay_refusals(list: &str, check: impl Fn(&[u8]) -> u32) -> Result<(u64,
     Ok((refused, let_pass))
 }
 
-/// Replays every line of the program against what it writes for the file; answers how many there are.
+/// Replays every line of the program against what it writes for the file: the refusal's line to the byte, or how many bytes the
+/// final records are. Answers how many lines there are.
 pub fn replay_program(list: &str, written: impl Fn(&[u8]) -> Result<Vec<u8>, String>) -> Result<u64, String> {
     let mut reader = Reader { lines: list.lines(), next: None };
     let (mut number, mut asked, mut replayed) = (0, Vec::new(), 0);
@@ -83,19 +84,25 @@ pub fn replay_program(list: &str, written: impl Fn(&[u8]) -> Result<Vec<u8>, Str
                 asked = file(&mut reader)?;
             }
             'P' => {
-                let wrote = written(&asked)?;
-                let refusal = wrote.strip_prefix(b"refused ").map(|rest| String::from_utf8_lossy(rest).trim().to_string());
-                let said = match refusal {
-                    Some(refusal) => vec![refusal.parse().map_err(|_| format!("refused {refusal}"))?, 0],
-                    None => vec![0, wrote.len() as u64],
-                };
-                same(&format!("file {number}, line P"), numbers, said)?;
+                let ([refusal, length], wrote) = (exactly(&numbers)?, written(&asked)?);
+                let line = format!("refused {refusal}\n").into_bytes();
+                let is_line = wrote.starts_with(b"refused ");
+                same(&format!("file {number}, whether line P is a refusal"), refusal != 0, is_line)?;
+                same(
+                    &format!("file {number}, line P"),
+                    if is_line { line.len() as u64 } else { length },
+                    wrote.len() as u64,
+                )?;
+                if is_line {
+                    same(&format!("file {number}, the line that is written"), line, wrote)?;
+                }
                 replayed += 1;
             }
+            'E' => return exactly(&numbers).and_then(|[files]| same("files", files, number)).map(|()| replayed),
             _ => continue,
         }
     }
-    Ok(replayed)
+    Err("the list has no end".to_string())
 }
 
 struct Reader<'a> {
@@ -156,12 +163,7 @@ fn file(reader: &mut Reader) -> Result<Vec<u8>, String> {
     Ok(file)
 }
 
-fn live_tables(
-    party: &mut dyn Services,
-    file: &[u8],
-    numbers: &[u64],
-    reader: &mut Reader,
-) -> Result<(), String> {
+fn live_tables(party: &mut dyn Services, file: &[u8], numbers: &[u64], reader: &mut Reader) -> Result<(), String> {
     let [live_in, live_out, refusal, visits, pushes, ins, outs] = exactly(numbers)?;
     let mut listed = (vec![0; live_in as usize], vec![0; live_out as usize]);
     fill_rows(reader, 'I', ins, &mut listed.0)?;
@@ -172,12 +174,7 @@ fn live_tables(
     same("live tables", listed, lent)
 }
 
-fn list_of_one(
-    party: &mut dyn Services,
-    file: &[u8],
-    numbers: &[u64],
-    reader: &mut Reader,
-) -> Result<(), String> {
+fn list_of_one(party: &mut dyn Services, file: &[u8], numbers: &[u64], reader: &mut Reader) -> Result<(), String> {
     let [instruction, lent, refusal, count] = exactly(numbers)?;
     let mut listed: Vec<u32> = vec![0; lent as usize];
     if refusal == 0 && count > 0 {
