@@ -16,10 +16,11 @@ use Rattle.lists.specs.Maps.{concatMap-append}
 use Rattle.walks.specs.InFile.{successor-in-file}
 use Rattle.graph.specs.declared.edges.NextEdge.{NextEdge}
 use Rattle.graph.specs.Between.{between}
+use Rattle.graph.specs.Tails.{TailLast}
 use Rattle.graph.specs.NextEdge.{edgeFrom, targetsFrom, edgeFrom-targets, edgeFrom-behind}
 use Rattle.graph.specs.Links.{Links, links, linkEdge, linkBlock, linked, LentLinks, Walked, Linkable}
 use Rattle.graph.specs.LinkLaws.{edge-linkable, edges-used}
-use Rattle.graph.specs.ByTable.{places-long, end-le, start-less, edges-all, block-listed, block-at-index, index-long}
+use Rattle.graph.specs.ByTable.{places-long, end-le, start-less, edges-all, block-tail, block-listed, block-at-index, index-long}
 
 -- EDGES. What is left to link, from the edge found on, leads to the end.
 pub record Linking (s : List ℕ) (q p : ℕ) (end l : Links) (e : NextEdge) : Type 0 where
@@ -100,6 +101,7 @@ pub record Indexed (s places order : List ℕ) (l : Links) (j : ℕ) : Type 0 wh
   pub starts : getD places (getD order j 0) 0 + 1 ≤ getD places (getD order j 0 + 1) 0
   pub ends : getD places (getD order j 0 + 1) 0 ≤ recordCount s
   pub linkable : Linkable (named 7 (between s (getD places (getD order j 0) 0 + 1) (getD places (getD order j 0 + 1) 0))) l
+  pub tail : TailLast s (getD places (getD order j 0) 0 + 1) (getD places (getD order j 0 + 1) 0)
 
 module _ (s places order : List ℕ) (count : ℕ) (w : Walked s places order count) where
   abbrev f : Function
@@ -180,6 +182,7 @@ module _ (s places order : List ℕ) (count : ℕ) (w : Walked s places order co
             starts = start-less s places (w .given) b b-in-file;
             ends = end-le s places (w .given) b b-in-file;
             linkable = linkable;
+            tail = block-tail s places (w .given) b b-in-file (w .tails);
           }
 
       -- when they are linked, the blocks below it are left

@@ -1,13 +1,15 @@
 -- Looking for the next edge, one record at a time.
-use Prim.Native.Nat.{ℕ, suc, _+_, _<_, _≤_}
-use mathlib.Core.Path.{_≡_, sym, ap, _∙_}
+use Prim.Native.Nat.{ℕ, zero, suc, _+_, _-_, _<_, _≤_}
+use mathlib.Core.Path.{_≡_, refl, sym, ap, _∙_}
 use mathlib.Core.List.{List}
+use native.Mathlib.Omega.{arith}
 use native.Mathlib.Numerals.{add-one}
 use lib.Dec.{eqb, eqb→eq, not-T}
 use Rattle.rules.specs.declared.Words.{Words}
 use Rattle.rules.specs.Records.{encode, kind, recordAt, recordCount}
 use Rattle.lists.specs.Tests.{eq→eqb, chosen, left-out}
 use Rattle.graph.specs.Between.{between, between-none, between-more}
+use Rattle.graph.specs.Tails.{NoTail}
 use Rattle.graph.specs.NextEdge.{edgeTag, edgeOr, nextEdge, edgeFrom}
 
 module _ (s : List ℕ) where
@@ -38,3 +40,15 @@ module _ (s : List ℕ) where
         first
         ∙ ap (λ (t : ℕ). edgeOr t (i + 1) (edgeFrom s (i + 1) q))
         (left-out (eqb (kind (recordAt s i)) 7) (suc (encode (recordAt s i) .second)) 0 (not-T (eqb (kind (recordAt s i)) 7) (λ t. other (eqb→eq (kind (recordAt s i)) 7 t))))
+
+  -- It is found behind places where no tail stands.
+  pub edgeFrom-behind-others : (p r q : ℕ) → p ≤ r → r ≤ q → q ≤ recordCount s → NoTail s p r → edgeFrom s r q ≡ edgeFrom s p q
+  edgeFrom-behind-others p r q l m k none = from (r - p) p (omega arith) none
+    where
+      from : (n p : ℕ) → p + n ≡ r → NoTail s p r → edgeFrom s r q ≡ edgeFrom s p q
+      from zero p e none =
+          let same : p ≡ r = omega arith in
+          rw same refl
+      from (suc n) p e none =
+          let other = none p (omega arith) (omega arith) in
+          from n (p + 1) (omega arith) (λ i h. none i (omega arith)) ∙ sym (edgeFrom-later p q (omega arith) k (λ z. omega arith))

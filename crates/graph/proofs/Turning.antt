@@ -19,9 +19,10 @@ use Rattle.walks.specs.Line.{sound-nodup}
 use Rattle.walks.specs.InFile.{path-in-file, successor-in-file}
 use Rattle.walks.specs.Machine.{Frame, Machine, blocksOn, Stacked, Kept, Going, step, push, step-going, step-kept, stack-length-le}
 use Rattle.graph.specs.Between.{between}
+use Rattle.graph.specs.Tails.{TailLast, tailLast-later}
 use Rattle.graph.specs.NextEdge.{Taken, edgeFrom, edgeFrom-taken}
 use Rattle.graph.specs.Tables.{Tables, finishTop, enterBlock, lookFrom, takeEdge, turnBy, turnOn, frameOf, frameAt, stageOf, machineOf, Given, Room, Clear, Ready}
-use Rattle.graph.specs.ByTable.{some, end-le, start-less, edges-all}
+use Rattle.graph.specs.ByTable.{some, end-le, start-less, edges-all, block-tail}
 use Rattle.graph.proofs.Tags.{Tagged, tagged-more, tagged-other}
 use Rattle.graph.proofs.Steps.{stack-top, step-top, finish-step, skip-step, enter-step}
 
@@ -60,6 +61,10 @@ module _ (s places : List ℕ) (t : Tables) (r : Ready s places t) (opened : 0 <
   -- the edges that it has left
   abbrev edges : List ℕ
   edges = named 7 (between s (getD (t .next) top 0) (getD places (b + 1) 0))
+
+  -- an edge of block x is looked for from place p on
+  abbrev Looks : ℕ → ℕ → Type 0
+  Looks x p = (getD places x 0 < p) × (p ≤ getD places (x + 1) 0)
 
   deep : t .depth ≡ suc top
   deep = omega arith
@@ -109,7 +114,7 @@ module _ (s places : List ℕ) (t : Tables) (r : Ready s places t) (opened : 0 <
 
   again :
       (t′ : Tables) → machineOf s places t′ ≡ step f m → Room (length (f .blocks)) t′ → Clear t′ → t′ .count ≤ length (t′ .order)
-      → ((j : ℕ) → j < t′ .depth → getD (t′ .next) j 0 ≤ getD places (getD (t′ .stack) j 0 + 1) 0)
+      → ((j : ℕ) → j < t′ .depth → Looks (getD (t′ .stack) j 0) (getD (t′ .next) j 0))
       → Tagged (t′ .index) (take (t′ .count) (t′ .order)) → Turned t′
   again t′ e room clear counted within tagged =
       record {
@@ -123,6 +128,7 @@ module _ (s places : List ℕ) (t : Tables) (r : Ready s places t) (opened : 0 <
               tagged = tagged;
               going = subst (Going f) (sym e) (step-going f m (r .going));
               kept = subst (Kept f) (sym e) (step-kept f m (r .kept));
+              tails = r .tails;
             };
         stepped = e;
       }
@@ -160,7 +166,7 @@ module _ (s places : List ℕ) (t : Tables) (r : Ready s places t) (opened : 0 <
       (tagged-more (t .order) (t .index) (t .count) b l inside top-not-done (r .tagged))
 
   -- AN EDGE to block u is taken, and the next is looked for from place p on
-  module _ (u p : ℕ) (e : edges ≡ u ∷ named 7 (between s p (getD places (b + 1) 0))) (l : p ≤ getD places (b + 1) 0) where
+  module _ (u p : ℕ) (e : edges ≡ u ∷ named 7 (between s p (getD places (b + 1) 0))) (l : p ≤ getD places (b + 1) 0) (later : getD (t .next) top 0 < p) where
     abbrev onTop : List Frame
     onTop = frameOf s places b p ∷ below
 
@@ -170,12 +176,13 @@ module _ (s places : List ℕ) (t : Tables) (r : Ready s places t) (opened : 0 <
     pub target-in-file : u < length (f .blocks)
     target-in-file = successor-in-file f (r .given .inFile) b (stacked .1 u (subst (λ (ts : List ℕ). u ∈ ts) (sym e) (here refl)))
 
-    looks-within : (j : ℕ) → j < t .depth → getD (set (t .next) top p) j 0 ≤ getD places (getD (t .stack) j 0 + 1) 0
+    looks-within : (j : ℕ) → j < t .depth → Looks (getD (t .stack) j 0) (getD (set (t .next) top p) j 0)
     looks-within j le =
         test-elim (eqb j top)
         (λ same.
         let z : j ≡ top = eqb→eq j top same in
-        rw (z, getD-set-same (t .next) top p 0 top-next) l)
+        let started = r .within top (omega arith) .0 in
+        rw (z, getD-set-same (t .next) top p 0 top-next) (omega arith, l))
         (λ other. rw (getD-set-other (t .next) top j p 0 (neqb→ne j top other)) (r .within j le))
 
     skip-turned : T (not (eqb (getD (t .index) u 0) 0)) → Turned (lookFrom p t)
@@ -214,7 +221,7 @@ module _ (s places : List ℕ) (t : Tables) (r : Ready s places t) (opened : 0 <
 
       enters-within :
           (j : ℕ) → j < t .depth + 1
-          → getD (set (set (t .next) top p) (t .depth) (getD places u 0 + 1)) j 0 ≤ getD places (getD (set (t .stack) (t .depth) u) j 0 + 1) 0
+          → Looks (getD (set (t .stack) (t .depth) u) j 0) (getD (set (set (t .next) top p) (t .depth) (getD places u 0 + 1)) j 0)
       enters-within j le =
           let d = t .depth in
           let first = getD places u 0 + 1 in
@@ -224,7 +231,7 @@ module _ (s places : List ℕ) (t : Tables) (r : Ready s places t) (opened : 0 <
           let z : j ≡ d = eqb→eq j d same in
           let long : d < length (set (t .next) top p) = rw length-set (omega (arith, r .room .next)) in
           rw (z, getD-set-same (set (t .next) top p) d first 0 long, getD-set-same (t .stack) d u 0 (omega (arith, r .room .stack)))
-          (start-less s places (r .given) u target-in-file))
+          (omega arith, start-less s places (r .given) u target-in-file))
           (λ other.
           let z : j ≢ d = neqb→ne j d other in
           rw (getD-set-other (set (t .next) top p) d j first 0 z, getD-set-other (t .stack) d j u 0 z) (looks-within j (omega arith)))
@@ -257,15 +264,22 @@ module _ (s places : List ℕ) (t : Tables) (r : Ready s places t) (opened : 0 <
         if-elim Turned (eqb (getD (t .index) u 0) 0) (enterBlock places u (lookFrom p t)) (lookFrom p t) enter-turned skip-turned
 
   -- what is found decides
-  by-turned : (tag behind : ℕ) → Taken s (getD places (b + 1) 0) edges (record { tag = tag; behind = behind }) → Turned (turnBy places tag behind t)
+  by-turned : (tag behind : ℕ) → Taken s (getD (t .next) top 0) (getD places (b + 1) 0) edges (record { tag = tag; behind = behind }) → Turned (turnBy places tag behind t)
   by-turned zero behind h = finish-turned h
-  by-turned (suc u) behind h = take-turned u behind (h .0) (h .1)
+  by-turned (suc u) behind h = take-turned u behind (h .0) (h .1) (h .2)
 
   -- where the next edge is looked for
   pub looks-in-block : getD (t .next) top 0 ≤ getD places (b + 1) 0
-  looks-in-block = r .within top (omega arith)
+  looks-in-block = r .within top (omega arith) .1
 
-  pub taken : Taken s (getD places (b + 1) 0) edges (edgeFrom s (getD (t .next) top 0) (getD places (b + 1) 0))
+  -- its tail is all that stands behind a record of it
+  pub tail-in-block : TailLast s (getD (t .next) top 0) (getD places (b + 1) 0)
+  tail-in-block =
+      let started = r .within top (omega arith) .0 in
+      tailLast-later s (getD places b 0 + 1) (getD (t .next) top 0) (getD places (b + 1) 0) (omega arith)
+      (block-tail s places (r .given) b top-in-file (r .tails))
+
+  pub taken : Taken s (getD (t .next) top 0) (getD places (b + 1) 0) edges (edgeFrom s (getD (t .next) top 0) (getD places (b + 1) 0))
   taken =
       edgeFrom-taken s (getD places (b + 1) 0) (getD (t .next) top 0) looks-in-block (end-le s places (r .given) b top-in-file)
 

@@ -81,10 +81,11 @@ module _ (s places order index stack next : List ℕ) (h : Lent s places (tables
         within =
             λ j l.
             let z : j ≡ 0 = omega arith in
-            rw (z, stack-zero, next-zero) (start-less s places (h .given) 0 zero-in-file);
+            rw (z, stack-zero, next-zero) (omega arith, start-less s places (h .given) 0 zero-in-file);
         tagged = λ b m. absurd m;
         going = subst (Going f) (sym start-machine) (begin-going f);
         kept = subst (Kept f) (sym start-machine) (begin-kept f);
+        tails = h .tails;
       }
 
 -- A TURN

@@ -10,11 +10,12 @@ use Rattle.rules.specs.Records.{recordCount}
 use Rattle.rules.specs.File.{named}
 use Rattle.lists.specs.Tests.{eq→eqb, chosen, left-out}
 use Rattle.graph.specs.Between.{between}
+use Rattle.graph.specs.Tails.{TailLast}
 use Rattle.graph.specs.NextEdge.{Taken, edgeFrom}
 use Rattle.graph.specs.Tables.{Tables, finishTop, enterBlock, lookFrom, takeEdge, turnBy, turnOn, Ready}
 use Rattle.graph.specs.declared.edges.NextEdge.{NextEdge}
 use Rattle.graph.specs.ByTable.{places-long, end-le, start-less}
-use Rattle.graph.proofs.Turning.{top-in-file, size, looks-in-block, taken, target-in-file, enter-room}
+use Rattle.graph.proofs.Turning.{top-in-file, size, looks-in-block, tail-in-block, taken, target-in-file, enter-room}
 
 -- what is known of the innermost block
 pub record Top (s places : List ℕ) (t : Tables) : Type 0 where
@@ -25,6 +26,7 @@ pub record Top (s places : List ℕ) (t : Tables) : Type 0 where
   pub listed : getD (t .stack) (t .depth - 1) 0 + 1 < length places
   pub looks : getD (t .next) (t .depth - 1) 0 ≤ getD places (getD (t .stack) (t .depth - 1) 0 + 1) 0
   pub ends : getD places (getD (t .stack) (t .depth - 1) 0 + 1) 0 ≤ recordCount s
+  pub tail : TailLast s (getD (t .next) (t .depth - 1) 0) (getD places (getD (t .stack) (t .depth - 1) 0 + 1) 0)
 
 -- and of block u, to which an edge leads
 pub record Target (places : List ℕ) (t : Tables) (u : ℕ) : Type 0 where
@@ -46,6 +48,7 @@ module _ (s places : List ℕ) (t : Tables) (r : Ready s places t) (opened : 0 <
         listed = omega (arith, places-long s places (r .given));
         looks = looks-in-block s places t r opened;
         ends = end-le s places (r .given) _ inside;
+        tail = tail-in-block s places t r opened;
       }
 
   -- where the next edge is found
@@ -61,12 +64,12 @@ module _ (s places : List ℕ) (t : Tables) (r : Ready s places t) (opened : 0 <
       edges : List ℕ
       edges = named 7 (between s (getD (t .next) (t .depth - 1) 0) end)
 
-      go : (tag behind : ℕ) → Taken s end edges (record { tag = tag; behind = behind })
+      go : (tag behind : ℕ) → Taken s (getD (t .next) (t .depth - 1) 0) end edges (record { tag = tag; behind = behind })
           → (k : ℕ) → k ≡ tag → k ≢ 0 → Target places t (k - 1)
       go zero behind h k z n = absurd (n z)
       go (suc u) behind h k z n =
           let one : k - 1 ≡ u = omega arith in
-          let inside = target-in-file s places t r opened u behind (h .0) (h .1) in
+          let inside = target-in-file s places t r opened u behind (h .0) (h .1) (h .2) in
           rw one
           (record {
             index = omega (arith, r .room .index);
@@ -74,7 +77,7 @@ module _ (s places : List ℕ) (t : Tables) (r : Ready s places t) (opened : 0 <
             starts = start-less s places (r .given) u inside;
             room =
                 λ new.
-                let l = enter-room s places t r opened u behind (h .0) (h .1) (eq→eqb new) in
+                let l = enter-room s places t r opened u behind (h .0) (h .1) (h .2) (eq→eqb new) in
                 (omega (arith, r .room .stack), omega (arith, r .room .next));
           })
 

@@ -1,14 +1,19 @@
 -- The records of a file between two places, as a loop from the first place to the second meets them.
 use Prim.Native.Nat.{ℕ, zero, suc, _+_, _-_, _*_, _<_, _≤_}
-use mathlib.Core.Path.{_≡_, refl, ap, _∙_}
+use mathlib.Core.Path.{_≡_, refl, ap, subst, _∙_}
+use mathlib.Core.Bool.{Bool}
 use mathlib.Core.List.{List, [], _∷_}
 use native.Mathlib.Omega.{arith}
 use native.Mathlib.Numerals.{add-one}
 use lib.ListN.{length, take, drop}
 use lib.Seq.{take-all, length-take-le}
+use lib.Dec.{T}
 use Rattle.rules.specs.Limits.{recordBytes}
-use Rattle.rules.specs.Records.{recordAt, recordCount, eachFrom, records}
+use Rattle.rules.specs.Lists.{all}
+use Rattle.rules.specs.Records.{kind, recordAt, recordCount, eachFrom, records}
 use Rattle.rules.specs.declared.Record.{Record}
+use Rattle.lists.specs.Tests.{and-left, and-right}
+use Rattle.records.specs.Kinds.{Kinds}
 use Rattle.records.specs.Places.{restBy, rest, rest-more, rest-all}
 
 -- the records from place p on and before place q
@@ -55,3 +60,18 @@ module _ (s : List ℕ) where
   pub length-between : (p q : ℕ) → q ≤ recordCount s → length (between s p q) ≡ q - p
   unfolding between
   length-between p q k = length-take-le (q - p) (rest s p) (omega (arith, length-rest s p))
+
+  -- a test that all their kinds pass, at a place
+  pub kinds-between :
+      (test : ℕ → Bool) (p q : ℕ) → q ≤ recordCount s → Kinds test (between s p q)
+      → (i : ℕ) → p ≤ i → i < q → T (test (kind (recordAt s i)))
+  kinds-between test p q k h i l m = from (i - p) p (omega arith) h
+    where
+      from : (n p : ℕ) → p + n ≡ i → Kinds test (between s p q) → T (test (kind (recordAt s i)))
+      from zero p e h =
+          let same : i ≡ p = omega arith in
+          let more = subst (Kinds test) (between-more p q (omega arith) k) h in
+          rw same (and-left (test (kind (recordAt s p))) (all (λ r. test (kind r)) (between s (suc p) q)) more)
+      from (suc n) p e h =
+          let more = subst (Kinds test) (between-more p q (omega arith) k) h in
+          from n (suc p) (omega arith) (and-right (test (kind (recordAt s p))) (all (λ r. test (kind r)) (between s (suc p) q)) more)

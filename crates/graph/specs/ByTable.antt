@@ -1,20 +1,26 @@
 -- What a caller reads of a file by its tables: of a block by its number, where it stands; of an index, which block has it.
 use Prim.Native.Nat.{ℕ, suc, _+_, _<_, _≤_}
 use mathlib.Core.Path.{_≡_, sym, ap, _∙_}
-use mathlib.Core.List.{List}
+use mathlib.Core.Logic.{_≢_}
+use mathlib.Core.Bool.{not}
+use mathlib.Core.List.{List, [], _∷_}
 use native.Mathlib.Omega.{arith}
 use native.Mathlib.Numerals.{add-one}
 use lib.ListN.{length, getD}
-use Rattle.rules.specs.Records.{recordCount, records}
+use lib.Dec.{eqb}
+use Rattle.rules.specs.Records.{kind, recordAt, recordCount, records}
 use Rattle.rules.specs.File.{named, functionIn}
 use Rattle.rules.specs.Graph.{successors, reachable}
+use Rattle.lists.specs.Tests.{neqb→ne, passes-at}
 use Rattle.lists.specs.Members.{getD-∈}
 use Rattle.lists.specs.Lack.{nodup-length-le}
+use Rattle.records.specs.Parts.{inBlock, in-block}
 use Rattle.walks.specs.Reachable.{reachable-nodup}
 use Rattle.walks.specs.InFile.{blocks-some, reachable-in-file}
 use Rattle.graph.specs.Zeros.{getD-padded, length-padded-le}
-use Rattle.graph.specs.Between.{between}
-use Rattle.graph.specs.Blocks.{blockTable, placeOf, bodyAt, length-blockTable, place-le, place-less, successors-by-place}
+use Rattle.graph.specs.Between.{between, kinds-between}
+use Rattle.graph.specs.Tails.{TailsLast, TailLast}
+use Rattle.graph.specs.Blocks.{blockTable, placeOf, bodyAt, length-blockTable, place-le, place-less, block-body, successors-by-place}
 use Rattle.graph.specs.Tables.{Given}
 use Rattle.graph.specs.Links.{Walked}
 
@@ -56,6 +62,18 @@ module _ (s places : List ℕ) (g : Given s places) where
     -- and so all its edges
     pub edges-all : named 7 (between s (getD places b 0 + 1) (getD places (b + 1) 0)) ≡ successors (functionIn s) b
     edges-all = ap (named 7) body-by-table ∙ sym (successors-by-place s (g .inOrder) b l)
+
+    -- no other block stands there
+    no-block : (i : ℕ) → getD places b 0 + 1 ≤ i → i < getD places (b + 1) 0 → kind (recordAt s i) ≢ 2
+    no-block i m k =
+        neqb→ne (kind (recordAt s i)) 2
+        (passes-at (λ j. not (eqb j 2)) (3 ∷ 4 ∷ 5 ∷ 6 ∷ 7 ∷ 8 ∷ 9 ∷ []) tt (kind (recordAt s i))
+        (kinds-between s inBlock (getD places b 0 + 1) (getD places (b + 1) 0) end-le
+        (rw body-by-table (in-block (bodyAt s b) (block-body s (g .inOrder) b l))) i m k))
+
+    -- so where tails stand last in the file, its own does in it
+    pub block-tail : TailsLast s → TailLast s (getD places b 0 + 1) (getD places (b + 1) 0)
+    block-tail tails i m k tail = let e = end-le in tails i (omega arith) tail (no-block (i + 1) (omega arith) k)
 
 -- BY INDEX, with the list of the reachable blocks
 module _ {s places order : List ℕ} {count : ℕ} (w : Walked s places order count) (j : ℕ) where

@@ -1,5 +1,6 @@
 pub mod Zeros
 pub mod Between
+pub mod Tails
 pub mod Sections
 pub mod Placed
 pub mod Blocks

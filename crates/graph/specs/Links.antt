@@ -10,6 +10,7 @@ use Rattle.rules.specs.File.{functionIn}
 use Rattle.rules.specs.Graph.{successors, reachable}
 use Rattle.lists.specs.Members.{_∈_}
 use Rattle.graph.specs.Zeros.{Zeros}
+use Rattle.graph.specs.Tails.{TailsLast}
 use Rattle.graph.specs.Tables.{Given}
 
 -- For each block the tag of the first entry of its list; for each entry a predecessor, and the tag of the next entry. A
@@ -50,11 +51,12 @@ listAt l b = listFrom (l .from) (l .next) (l .used) (getD (l .first) b 0)
 abbrev pub reachableEdges : Function → List ℕ
 reachableEdges f = concatMap (successors f) (reachable f)
 
--- what is read: the file by its block table, and the reachable blocks by index
+-- what is read: the file by its block table, the reachable blocks by index, and edges from a block's end
 pub record Walked (s places order : List ℕ) (count : ℕ) : Type 0 where
   pub given : Given s places
   pub counted : count ≡ length (reachable (functionIn s))
   pub listed : order ≡ padded (length order) (reachable (functionIn s))
+  pub tails : TailsLast s
 
 -- what is lent: zeros, with a place for each block and for each edge
 pub record LentLinks (f : Function) (l : Links) : Type 0 where

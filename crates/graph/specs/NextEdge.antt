@@ -1,5 +1,5 @@
 -- The next edge from a place on. An edge is written as a tag: 0 for none, and one more than its target for one.
-use Prim.Native.Nat.{ℕ, zero, suc, _+_, _-_, _≤_}
+use Prim.Native.Nat.{ℕ, zero, suc, _+_, _-_, _<_, _≤_}
 use mathlib.Core.Path.{_≡_, refl, ap}
 use mathlib.Core.Bool.{Bool, true, false}
 use mathlib.Core.List.{List, [], _∷_, map}
@@ -30,26 +30,34 @@ nextEdge p (r ∷ rs) = edgeOr (edgeTag r) (suc p) (nextEdge (suc p) rs)
 unfoldable pub edgeFrom : List ℕ → ℕ → ℕ → NextEdge
 edgeFrom s p q = nextEdge p (between s p q)
 
--- Of the targets of the edges before place q, a tag is the first, and the others stand behind it.
-abbrev pub Taken : List ℕ → ℕ → List ℕ → NextEdge → Type 0
-Taken s q targets e = go (e .tag)
+-- Of the targets of the edges from place p on and before place q, a tag is the first, and the others stand behind it.
+abbrev pub Taken : List ℕ → ℕ → ℕ → List ℕ → NextEdge → Type 0
+Taken s p q targets e = go (e .tag)
   where
     go : ℕ → Type 0
     go zero = targets ≡ []
-    go (suc t) = (targets ≡ t ∷ named 7 (between s (e .behind) q)) × (e .behind ≤ q)
+    go (suc t) = (targets ≡ t ∷ named 7 (between s (e .behind) q)) × (e .behind ≤ q) × (p < e .behind)
 
 module _ (s : List ℕ) (q : ℕ) where
+  taken-sooner : (p : ℕ) (targets : List ℕ) (e : NextEdge) → Taken s (suc p) q targets e → Taken s p q targets e
+  taken-sooner p targets e = go (e .tag) (e .behind)
+    where
+      go : (tag behind : ℕ) → Taken s (suc p) q targets (record { tag = tag; behind = behind })
+          → Taken s p q targets (record { tag = tag; behind = behind })
+      go zero behind h = h
+      go (suc t) behind h = let l = h .2 in (h .0, h .1, omega arith)
+
   taken-more : (r : Record) (p : ℕ) (rs : List Record) → suc p ≤ q → rs ≡ between s (suc p) q
-      → Taken s q (named 7 rs) (nextEdge (suc p) rs) → Taken s q (named 7 (r ∷ rs)) (nextEdge p (r ∷ rs))
+      → Taken s (suc p) q (named 7 rs) (nextEdge (suc p) rs) → Taken s p q (named 7 (r ∷ rs)) (nextEdge p (r ∷ rs))
   taken-more r p rs l e later = go (eqb (kind r) 7)
     where
       go : (o : Bool)
-          → Taken s q (map (λ (w : Words). w .second) (elim o [ true ↦ encode r ∷ ofKind 7 rs | false ↦ ofKind 7 rs ]))
+          → Taken s p q (map (λ (w : Words). w .second) (elim o [ true ↦ encode r ∷ ofKind 7 rs | false ↦ ofKind 7 rs ]))
           (edgeOr (elim o [ true ↦ suc (encode r .second) | false ↦ 0 ]) (suc p) (nextEdge (suc p) rs))
-      go true = (ap (λ (t : List Record). encode r .second ∷ named 7 t) e, l)
-      go false = later
+      go true = (ap (λ (t : List Record). encode r .second ∷ named 7 t) e, l, omega arith)
+      go false = taken-sooner p (named 7 rs) (nextEdge (suc p) rs) later
 
-  taken-from : (n p : ℕ) → p + n ≡ q → q ≤ recordCount s → Taken s q (named 7 (between s p q)) (nextEdge p (between s p q))
+  taken-from : (n p : ℕ) → p + n ≡ q → q ≤ recordCount s → Taken s p q (named 7 (between s p q)) (nextEdge p (between s p q))
   taken-from zero p e k =
       let same : q ≡ p = omega arith in
       rw (same, between-none s p) refl
@@ -58,7 +66,7 @@ module _ (s : List ℕ) (q : ℕ) where
       (taken-more (recordAt s p) p (between s (suc p) q) (omega arith) refl (taken-from n (suc p) (omega arith) k))
 
   -- What stands between two places has the first edge found, and behind it the others.
-  pub edgeFrom-taken : (p : ℕ) → p ≤ q → q ≤ recordCount s → Taken s q (named 7 (between s p q)) (edgeFrom s p q)
+  pub edgeFrom-taken : (p : ℕ) → p ≤ q → q ≤ recordCount s → Taken s p q (named 7 (between s p q)) (edgeFrom s p q)
   unfolding edgeFrom
   edgeFrom-taken p l k = taken-from (q - p) p (omega arith) k
 
@@ -71,7 +79,7 @@ module _ (s : List ℕ) (p q : ℕ) (l : p ≤ q) (k : q ≤ recordCount s) wher
   pub edgeFrom-targets : named 7 (between s p q) ≡ targetsFrom s q (edgeFrom s p q .tag) (edgeFrom s p q .behind)
   edgeFrom-targets = go (edgeFrom s p q .tag) (edgeFrom s p q .behind) (edgeFrom-taken s q p l k)
     where
-      go : (tag behind : ℕ) → Taken s q (named 7 (between s p q)) (record { tag = tag; behind = behind })
+      go : (tag behind : ℕ) → Taken s p q (named 7 (between s p q)) (record { tag = tag; behind = behind })
           → named 7 (between s p q) ≡ targetsFrom s q tag behind
       go zero behind h = h
       go (suc t) behind h = h .0
@@ -79,6 +87,6 @@ module _ (s : List ℕ) (p q : ℕ) (l : p ≤ q) (k : q ≤ recordCount s) wher
   pub edgeFrom-behind : (edgeFrom s p q .tag ≡ 0 → ⊥) → edgeFrom s p q .behind ≤ q
   edgeFrom-behind = go (edgeFrom s p q .tag) (edgeFrom s p q .behind) (edgeFrom-taken s q p l k)
     where
-      go : (tag behind : ℕ) → Taken s q (named 7 (between s p q)) (record { tag = tag; behind = behind }) → (tag ≡ 0 → ⊥) → behind ≤ q
+      go : (tag behind : ℕ) → Taken s p q (named 7 (between s p q)) (record { tag = tag; behind = behind }) → (tag ≡ 0 → ⊥) → behind ≤ q
       go zero behind h some = absurd (some refl)
       go (suc t) behind h some = h .1

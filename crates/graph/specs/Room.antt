@@ -20,6 +20,7 @@ use Rattle.lists.specs.Lack.{lack, lack-insert}
 use Rattle.walks.specs.Reachable.{reachable-nodup}
 use Rattle.walks.specs.InFile.{blocks-some, reachable-in-file}
 use Rattle.graph.specs.Zeros.{Zeros, zeros-zeros}
+use Rattle.graph.specs.Tails.{TailsLast}
 use Rattle.graph.specs.Blocks.{blockPlaces, blockTable, length-blockPlaces}
 use Rattle.graph.specs.Tables.{tables, Lent}
 use Rattle.graph.specs.Links.{links, reachableEdges, LentLinks}
@@ -94,9 +95,9 @@ module _ (s : List ℕ) (few : T (not (tooMany s))) (inOrder : T (ordered 0 (rec
   -- so do the tables of the walk,
   pub walk-lent :
       (places order index stack next : List ℕ) → places ≡ padded (length places) (blockTable s)
-      → Blank largestBlocks order → Blank largestBlocks index → Blank largestBlocks stack → Blank largestBlocks next
+      → Blank largestBlocks order → Blank largestBlocks index → Blank largestBlocks stack → Blank largestBlocks next → TailsLast s
       → Lent s places (tables order index stack next 0 0)
-  walk-lent places order index stack next table o i t n =
+  walk-lent places order index stack next table o i t n tails =
       record {
         given = record { inOrder = inOrder; inFile = inFile; table = table };
         room = record { order = enough o; index = enough i; stack = enough t; next = enough n };
@@ -104,6 +105,7 @@ module _ (s : List ℕ) (few : T (not (tooMany s))) (inOrder : T (ordered 0 (rec
         index = i .1;
         stack = t .1;
         next = n .1;
+        tails = tails;
       }
 
   enoughEdges : {table : List ℕ} → Blank largestEdges table → length (reachableEdges (functionIn s)) ≤ length table

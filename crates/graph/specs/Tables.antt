@@ -17,6 +17,7 @@ use Rattle.walks.specs.Walks.{Stage}
 use Rattle.walks.specs.Machine.{Frame, Machine, Going, Kept}
 use Rattle.graph.specs.Zeros.{Zeros}
 use Rattle.graph.specs.Between.{between}
+use Rattle.graph.specs.Tails.{TailsLast}
 use Rattle.graph.specs.Blocks.{blockTable}
 use Rattle.graph.specs.NextEdge.{edgeFrom}
 
@@ -110,15 +111,17 @@ pub record Ready (s places : List ℕ) (t : Tables) : Type 0 where
   pub room : Room (length (functionIn s .blocks)) t
   pub clear : Clear t
   pub counted : t .count ≤ length (t .order)
-  -- no block's next edge is looked for behind the block
-  pub within : (j : ℕ) → j < t .depth → getD (t .next) j 0 ≤ getD places (getD (t .stack) j 0 + 1) 0
+  -- each block's next edge is looked for in the block, behind its record
+  pub within : (j : ℕ) → j < t .depth → (getD places (getD (t .stack) j 0) 0 < getD (t .next) j 0) × (getD (t .next) j 0 ≤ getD places (getD (t .stack) j 0 + 1) 0)
   -- what is done has its tag
   pub tagged : (b : ℕ) → T (has b (take (t .count) (t .order))) → getD (t .index) b 0 ≡ tagFrom 0 (take (t .count) (t .order)) b
   -- the machine has the rest of the walk to do
   pub going : Going (functionIn s) (machineOf s places t)
   pub kept : Kept (functionIn s) (machineOf s places t)
+  -- a block's edges are found from its end
+  pub tails : TailsLast s
 
--- THE PROMISE. What is lent: tables of zeros with a place for each block,
+-- THE PROMISE. What is lent: tables of zeros with a place for each block, of a file whose blocks end with their edges,
 pub record Lent (s places : List ℕ) (t : Tables) : Type 0 where
   pub given : Given s places
   pub room : Room (length (functionIn s .blocks)) t
@@ -126,6 +129,7 @@ pub record Lent (s places : List ℕ) (t : Tables) : Type 0 where
   pub index : Zeros (t .index)
   pub stack : Zeros (t .stack)
   pub next : Zeros (t .next)
+  pub tails : TailsLast s
 
 -- the index of block b and one, 0 where it is not reachable,
 abbrev pub indexTag : Function → ℕ → ℕ

@@ -4,6 +4,7 @@ ghost use mathlib.Core.Bool.{true};
 ghost use Prim.Native.Nat.{_≤_, _<_, _^_};
 ghost use Rattle.rules.specs.Records.{recordCount, records};
 ghost use Rattle.rules.specs.File.{ordered};
+ghost use Rattle.graph.specs.Tails.{TailLast, NoTail};
 ghost use Rattle.graph.specs.NextEdge.{edgeFrom};
 use records::in_order::kind_at;
 use records::in_order::words_at;
@@ -36,4 +37,31 @@ pub fn next_edge(s: &[u8], from: usize, end: usize) -> NextEdge
         i += 1;
     }
     NextEdge { tag: 0, behind: i }
+}
+
+// Where a block's tail of edges, edge arguments and contexts starts, from a place on and before the block's end. A place
+// that is in the tail is itself the answer, so that whoever asks again behind each edge does not read the tail again.
+pub fn tail_from(s: &[u8], from: usize, end: usize) -> usize
+    requires { ⌜ (from ≤ end) × (end ≤ recordCount (now s)) × (ordered 0 (records (now s)) ≡ true) × TailLast (now s) from end ⌝ }
+    ensures { λ r. ⌜ (from ≤ r) × (r ≤ end) × NoTail (now (s .entry)) from r ⌝ }
+{
+    if from == end {
+        return end;
+    }
+    if kind_at(s, from) >= 7 {
+        return from;
+    }
+    let mut at = end;
+    while kind_at(s, at - 1) >= 7 {
+        at -= 1;
+    }
+    at
+}
+
+// The first edge from a place on and before the block's end, found in the block's tail.
+pub fn next_edge_in_tail(s: &[u8], from: usize, end: usize) -> NextEdge
+    requires { ⌜ (from ≤ end) × (end ≤ recordCount (now s)) × (ordered 0 (records (now s)) ≡ true) × TailLast (now s) from end ⌝ }
+    ensures { λ r. ⌜ r ≡ edgeFrom (now (s .entry)) from end ⌝ }
+{
+    next_edge(s, tail_from(s, from, end), end)
 }

@@ -8,8 +8,10 @@ ghost use Rattle.rules.specs.Lists.{foldl};
 ghost use Rattle.rules.specs.Records.{recordCount, records};
 ghost use Rattle.rules.specs.File.{named, ordered, functionIn};
 ghost use Rattle.graph.specs.Between.{between};
+ghost use Rattle.graph.specs.Tails.{TailLast};
 ghost use Rattle.graph.specs.Links.{links, linkEdge, linked, Linkable, LentLinks, Walked};
 use crate::edges::next_edge;
+use crate::edges::next_edge_in_tail;
 
 // One entry more, in front of the list of block t: an edge from block p.
 fn link_edge(
@@ -41,11 +43,11 @@ fn link_block(
     used: usize,
     p: usize,
 ) -> usize
-    requires { ⌜ (start ≤ end) × (end ≤ recordCount (now s)) × Linkable (named 7 (between (now s) start end)) (links (now first) (now from) (now next) used) × (ordered 0 (records (now s)) ≡ true) ⌝ }
+    requires { ⌜ (start ≤ end) × (end ≤ recordCount (now s)) × Linkable (named 7 (between (now s) start end)) (links (now first) (now from) (now next) used) × (ordered 0 (records (now s)) ≡ true) × TailLast (now s) start end ⌝ }
     ensures { λ r. ⌜ links (now (first .exit)) (now (from .exit)) (now (next .exit)) r ≡ foldl (linkEdge p) (links (now (first .entry)) (now (from .entry)) (now (next .entry)) used) (named 7 (between (now (s .entry)) start end)) ⌝ }
 {
     let mut count = used;
-    let mut edge = next_edge(s, start, end);
+    let mut edge = next_edge_in_tail(s, start, end);
     while edge.tag > 0 {
         count = link_edge(first, from, next, count, p, edge.tag - 1);
         edge = next_edge(s, edge.behind, end);

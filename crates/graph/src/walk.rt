@@ -5,7 +5,7 @@ ghost use Prim.Native.Nat.{ℕ, _+_, _-_, _≤_, _<_};
 ghost use lib.ListN.{length, getD};
 ghost use Rattle.rules.specs.File.{functionIn};
 ghost use Rattle.graph.specs.Tables.{tables, finishTop, enterBlock, turnOn, Ready, Lent, Numbered};
-use crate::edges::next_edge;
+use crate::edges::next_edge_in_tail;
 
 // How many blocks are open, and how many are done.
 struct At {
@@ -75,7 +75,7 @@ fn turn(
 {
     let top = at.depth - 1;
     let b = stack[top];
-    let edge = next_edge(s, next[top], places[b + 1]);
+    let edge = next_edge_in_tail(s, next[top], places[b + 1]);
     let tag = edge.tag;
     if tag == 0 {
         return finish(order, index, stack, next, at);

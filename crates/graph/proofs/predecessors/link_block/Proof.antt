@@ -20,13 +20,13 @@ Inv-loop s start end first₀ from₀ next₀ used p count₀ edge₀ first from
 abbrev μ-loop : tie.MeasureT-loop
 μ-loop s start end first₀ from₀ next₀ used p count₀ edge₀ first from next count edge = length (targetsFrom s end (edge .tag) (edge .behind))
 
-next-edge-requires : tie.Need-next-edge-requires Inv-loop μ-loop
-next-edge-requires c κs = search needs
+next-edge-in-tail-requires : tie.Need-next-edge-in-tail-requires Inv-loop μ-loop
+next-edge-in-tail-requires c κs = search needs
 
 loop-holds : tie.Need-loop-holds Inv-loop μ-loop
 loop-holds c =
     let start = c .before .before .before .before .before in
-    (refl, refl, refl, linking-from (start .args .s .now) (start .args .end) (start .args .p) (start .pre .1) _ _ (start .args .start) (start .pre .0) (start .pre .2) refl (c .next-edge .result) (c .next-edge .ensures))
+    (refl, refl, refl, linking-from (start .args .s .now) (start .args .end) (start .args .p) (start .pre .1) _ _ (start .args .start) (start .pre .0) (start .pre .2) refl (c .next-edge-in-tail .result) (c .next-edge-in-tail .ensures))
 
 sub-link-edge : tie.Need-sub-link-edge Inv-loop μ-loop
 sub-link-edge c = search needs
@@ -37,8 +37,8 @@ link-edge-requires c κs =
     let loop = c .before .before .before .before .before .before .loop in
     linking-room (start .args .s .now) (start .args .end) (start .args .p) (start .pre .1) _ _ _ (loop .inv .3) (omega arith)
 
-next-edge-requires-2 : tie.Need-next-edge-requires-2 Inv-loop μ-loop
-next-edge-requires-2 c κs =
+next-edge-requires : tie.Need-next-edge-requires Inv-loop μ-loop
+next-edge-requires c κs =
     let start = c .before .before .before .before .before .before .before .before .before .before .before .before .before .before .before .before .before .before .before in
     let loop = c .before .before .before .before .before .before .before .before .before .before .before .before .before .loop in
     (linking-inside (start .args .s .now) (start .args .end) (start .args .p) (start .pre .1) _ _ _ (loop .inv .3) (omega arith), start .pre .1, start .pre .3)
@@ -47,7 +47,7 @@ loop-less : tie.Need-loop-less Inv-loop μ-loop
 loop-less c =
     let start = c .before .before .before .before .before .before .before .before .before .before .before .before .before .before .before .before .before .before .before .before in
     let loop = c .before .before .before .before .before .before .before .before .before .before .before .before .before .before .loop in
-    linking-less (start .args .s .now) (start .args .end) (start .args .p) (start .pre .1) _ _ _ (loop .inv .3) (omega arith) (c .next-edge2 .result) (c .next-edge2 .ensures)
+    linking-less (start .args .s .now) (start .args .end) (start .args .p) (start .pre .1) _ _ _ (loop .inv .3) (omega arith) (c .next-edge .result) (c .next-edge .ensures)
 
 loop-again : tie.Need-loop-again Inv-loop μ-loop
 loop-again c =
@@ -58,7 +58,7 @@ loop-again c =
       kept .0 ∙ loop .inv .0,
       kept .1 .0 ∙ loop .inv .1,
       kept .1 .1 .0 ∙ loop .inv .2,
-      linking-more (start .args .s .now) (start .args .end) (start .args .p) (start .pre .1) _ _ _ (loop .inv .3) (omega arith) _ (link-edge .ensures) (c .next-edge2 .result) (c .next-edge2 .ensures),
+      linking-more (start .args .s .now) (start .args .end) (start .args .p) (start .pre .1) _ _ _ (loop .inv .3) (omega arith) _ (link-edge .ensures) (c .next-edge .result) (c .next-edge .ensures),
     )
 
 same-length : tie.Need-same-length Inv-loop μ-loop
@@ -82,11 +82,11 @@ link-block-spec =
     (tie.spec
     Inv-loop
     μ-loop
-    next-edge-requires
+    next-edge-in-tail-requires
     loop-holds
     sub-link-edge
     link-edge-requires
-    next-edge-requires-2
+    next-edge-requires
     loop-less
     loop-again
     same-length

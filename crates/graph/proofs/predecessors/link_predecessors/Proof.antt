@@ -77,7 +77,7 @@ shared-slice-read-link-block-2 c = known (c .before .before .before) .listed
 link-block-requires : tie.Need-link-block-requires Inv-loop μ-loop
 link-block-requires c κs =
     let inside = c .before .before .before .before .before .before in
-    (known inside .starts, known inside .ends, known inside .linkable, is-true _ (start-of (inside .before) .pre .0 .given .inOrder))
+    (known inside .starts, known inside .ends, known inside .linkable, is-true _ (start-of (inside .before) .pre .0 .given .inOrder), known inside .tail)
 
 add-done : tie.Need-add-done Inv-loop μ-loop
 add-done c = omega (arith, c .before .before .before .before .before .before .before .before .before .before .before .before .before .before .loop-test .taken)

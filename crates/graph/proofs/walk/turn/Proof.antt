@@ -41,27 +41,27 @@ slice-read-b c =
     let start = c .before .before .before .before .before .before .before .before in
     omega (arith, known start, start .pre .0)
 
-mul-next-edge : tie.Need-mul-next-edge
-mul-next-edge c = omega (arith, known (c .before .before .before .before .before .before .before .before))
+mul-next-edge-in-tail : tie.Need-mul-next-edge-in-tail
+mul-next-edge-in-tail c = omega (arith, known (c .before .before .before .before .before .before .before .before))
 
-slice-read-next-edge : tie.Need-slice-read-next-edge
-slice-read-next-edge c =
+slice-read-next-edge-in-tail : tie.Need-slice-read-next-edge-in-tail
+slice-read-next-edge-in-tail c =
     let start = c .before .before .before .before .before .before .before .before .before in
     omega (arith, known start, start .pre .0)
 
-add-next-edge : tie.Need-add-next-edge
-add-next-edge c = omega (arith, known (c .before .before .before .before .before .before .before .before .before))
+add-next-edge-in-tail : tie.Need-add-next-edge-in-tail
+add-next-edge-in-tail c = omega (arith, known (c .before .before .before .before .before .before .before .before .before))
 
-mul-next-edge-2 : tie.Need-mul-next-edge-2
-mul-next-edge-2 c = omega (arith, known (c .before .before .before .before .before .before .before .before .before))
+mul-next-edge-in-tail-2 : tie.Need-mul-next-edge-in-tail-2
+mul-next-edge-in-tail-2 c = omega (arith, known (c .before .before .before .before .before .before .before .before .before))
 
-shared-slice-read-next-edge : tie.Need-shared-slice-read-next-edge
-shared-slice-read-next-edge c = omega (arith, known (c .before .before .before .before .before .before .before .before .before .before))
+shared-slice-read-next-edge-in-tail : tie.Need-shared-slice-read-next-edge-in-tail
+shared-slice-read-next-edge-in-tail c = omega (arith, known (c .before .before .before .before .before .before .before .before .before .before))
 
-next-edge-requires : tie.Need-next-edge-requires
-next-edge-requires c κs =
+next-edge-in-tail-requires : tie.Need-next-edge-in-tail-requires
+next-edge-in-tail-requires c κs =
     let inside = c .before .before .before .before .before .before .before .before .before .before in
-    (known inside .looks, known inside .ends, is-true _ (inside .pre .1 .given .inOrder))
+    (known inside .looks, known inside .ends, is-true _ (inside .pre .1 .given .inOrder), known inside .tail)
 
 finish-requires : tie.Need-finish-requires
 finish-requires c κs =
@@ -83,7 +83,7 @@ same-length-4 c = search needs
 returns : tie.Need-returns
 returns c =
     let start = c .before .before .before .before .before .before .before .before .before .before .before .before .before .before .before .before .before .before .before .before .before .before .before .before .before in
-    let next-edge = c .before .before .before .before .before .before .before .before .before .before .before .before .before .before .next-edge in
+    let next-edge = c .before .before .before .before .before .before .before .before .before .before .before .before .before .before .next-edge-in-tail in
     let if1 = c .before .before .before .before .before .before .before .before .before .before .before .before .before .if1 in
     let finish = c .before .before .before .before .before .before .before .before .finish in
     finish .ensures ∙ sym (turn-finish (start .args .s .now) (start .args .places .now) (before start) (next-edge .result) (next-edge .ensures) (if1 .taken))
@@ -102,12 +102,12 @@ sub-target c = search needs
 mul-if2 : tie.Need-mul-if2
 mul-if2 c =
     let inside = c .before .before .before .before .before .before .before .before .before .before .before .before in
-    omega (arith, target inside (c .before .next-edge .result) (c .before .next-edge .ensures) (c .if1 .left))
+    omega (arith, target inside (c .before .next-edge-in-tail .result) (c .before .next-edge-in-tail .ensures) (c .if1 .left))
 
 slice-read-if2 : tie.Need-slice-read-if2
 slice-read-if2 c =
     let inside = c .before .before .before .before .before .before .before .before .before .before .before .before .before in
-    let next-edge = c .before .before .next-edge in
+    let next-edge = c .before .before .next-edge-in-tail in
     target inside (next-edge .result) (next-edge .ensures) (c .before .if1 .left) .index
 
 same-length-5 : tie.Need-same-length-5
@@ -116,14 +116,14 @@ same-length-5 c = search needs
 returns-2 : tie.Need-returns-2
 returns-2 c =
     let start = c .before .before .before .before .before .before .before .before .before .before .before .before .before .before in
-    let next-edge = c .before .before .before .next-edge in
+    let next-edge = c .before .before .before .next-edge-in-tail in
     let if1 = c .before .before .if1 in
     sym (turn-skip (start .args .s .now) (start .args .places .now) (before start) (next-edge .result) (next-edge .ensures) (if1 .left) (c .if2 .taken))
 
 enter-requires : tie.Need-enter-requires
 enter-requires c κs =
     let inside = c .before .before .before .before .before .before .before .before .before .before .before .before .before .before .before .before .before in
-    let next-edge = c .before .before .before .before .before .before .next-edge in
+    let next-edge = c .before .before .before .before .before .before .next-edge-in-tail in
     let if1 = c .before .before .before .before .before .if1 in
     let if2 = c .before .before .before .if2 in
     let known-target = target inside (next-edge .result) (next-edge .ensures) (if1 .left) in
@@ -142,7 +142,7 @@ same-length-8 c = c .before .before .before .before .before .before .enter .kept
 returns-3 : tie.Need-returns-3
 returns-3 c =
     let start = c .before .before .before .before .before .before .before .before .before .before .before .before .before .before .before .before .before .before .before .before .before .before .before .before in
-    let next-edge = c .before .before .before .before .before .before .before .before .before .before .before .before .before .next-edge in
+    let next-edge = c .before .before .before .before .before .before .before .before .before .before .before .before .before .next-edge-in-tail in
     let if1 = c .before .before .before .before .before .before .before .before .before .before .before .before .if1 in
     let if2 = c .before .before .before .before .before .before .before .before .before .before .if2 in
     let enter = c .before .before .before .before .before .before .enter in
@@ -155,12 +155,12 @@ turn-spec =
     sub-top
     mul-b
     slice-read-b
-    mul-next-edge
-    slice-read-next-edge
-    add-next-edge
-    mul-next-edge-2
-    shared-slice-read-next-edge
-    next-edge-requires
+    mul-next-edge-in-tail
+    slice-read-next-edge-in-tail
+    add-next-edge-in-tail
+    mul-next-edge-in-tail-2
+    shared-slice-read-next-edge-in-tail
+    next-edge-in-tail-requires
     finish-requires
     same-length
     same-length-2
