@@ -72,7 +72,7 @@ pub record Ready (f : Function) (at : Progress) : Type 0 where
 
 -- THE WHOLE PROCESS: the file is walked, its rule and its lists are known, and the live tables are zeros.
 pub record Solvable (s places order : List ℕ) (count : ℕ) (first from next uses kills ins outs : List ℕ) : Type 0 where
-  pub walked : Walked s places order count  -- the block table, and the blocks by index
+  pub walked : Walked s places order count  -- the block table, the blocks by index, tails last
   pub ruled : Ruled (functionIn s) uses kills  -- uses and kills of each block
   pub listed : Listed (functionIn s) first from next  -- predecessors of each block
   pub in-rows : HasRows (functionIn s) ins

@@ -11,6 +11,7 @@ ghost use Rattle.rules.specs.Liveness.{process};
 ghost use Rattle.lists.specs.Members.{_∈_};
 ghost use Rattle.fixpoint.specs.MoveToTop.{Compact, stepTop};
 ghost use Rattle.graph.specs.Between.{between};
+ghost use Rattle.graph.specs.Tails.{TailsLast, TailLast};
 ghost use Rattle.graph.specs.Tables.{Given};
 ghost use Rattle.rows.specs.Rows.{rows, HasRow};
 ghost use Rattle.worklist.specs.Entries.{entries, Stacked};
@@ -18,6 +19,7 @@ ghost use Rattle.solving.specs.Chains.{chain, Chain};
 ghost use Rattle.solving.specs.Progress.{joinedInto, Added, Pushable, Pushed, Stands};
 ghost use Rattle.solving.specs.Tables.{Ruled, LiveTables, Listed, Ready, Solvable};
 use graph::edges::next_edge;
+use graph::edges::next_edge_in_tail;
 use rows::count;
 use rows::join;
 use rows::transfer;
@@ -38,10 +40,10 @@ pub struct LivenessCounts {
 
 // A block's row of live-out gets the live-in of each target of the edges between two places.
 fn join_successors(s: &[u8], start: usize, end: usize, outs: &mut [u64], b: usize, ins: &[u64])
-    requires { ⌜ (start ≤ end) × (end ≤ recordCount (now s)) × HasRow (now outs) b × ((t : ℕ) → t ∈ named 7 (between (now s) start end) → HasRow (now ins) t) × (ordered 0 (records (now s)) ≡ true) ⌝ }
+    requires { ⌜ (start ≤ end) × (end ≤ recordCount (now s)) × HasRow (now outs) b × ((t : ℕ) → t ∈ named 7 (between (now s) start end) → HasRow (now ins) t) × (ordered 0 (records (now s)) ≡ true) × TailLast (now s) start end ⌝ }
     ensures { λ _. ⌜ rows (now (outs .exit)) ≡ joinedInto b (rows (now (ins .entry))) (named 7 (between (now (s .entry)) start end)) (rows (now (outs .entry))) ⌝ }
 {
-    let mut edge = next_edge(s, start, end);
+    let mut edge = next_edge_in_tail(s, start, end);
     while edge.tag > 0 {
         join(outs, b, ins, edge.tag - 1);
         edge = next_edge(s, edge.behind, end);
@@ -59,7 +61,7 @@ fn add_live(
     outs: &mut [u64],
     b: usize,
 ) -> bool
-    requires { ⌜ Given (now s) (now places) × Ruled (functionIn (now s)) (now uses) (now kills) × LiveTables (functionIn (now s)) (now ins) (now outs) × (b < length (functionIn (now s) .blocks)) ⌝ }
+    requires { ⌜ Given (now s) (now places) × Ruled (functionIn (now s)) (now uses) (now kills) × LiveTables (functionIn (now s)) (now ins) (now outs) × (b < length (functionIn (now s) .blocks)) × TailsLast (now s) ⌝ }
     ensures { λ r. ⌜ Added (functionIn (now (s .entry))) b (rows (now (ins .entry))) (rows (now (outs .entry))) (rows (now (ins .exit))) (rows (now (outs .exit))) r ⌝ }
 {
     let before = count(ins, b);
@@ -108,7 +110,7 @@ fn visit(
     outs: &mut [u64],
     at: Progress,
 ) -> Progress
-    requires { ⌜ Given (now s) (now places) × Ruled (functionIn (now s)) (now uses) (now kills) × Listed (functionIn (now s)) (now first) (now from) (now next) × LiveTables (functionIn (now s)) (now ins) (now outs) × Ready (functionIn (now s)) at ⌝ }
+    requires { ⌜ Given (now s) (now places) × Ruled (functionIn (now s)) (now uses) (now kills) × Listed (functionIn (now s)) (now first) (now from) (now next) × LiveTables (functionIn (now s)) (now ins) (now outs) × Ready (functionIn (now s)) at × TailsLast (now s) ⌝ }
     ensures { λ r. ⌜ ((c : Compact) → Stands (now (ins .entry)) (now (outs .entry)) at c → Stands (now (ins .exit)) (now (outs .exit)) r (stepTop (functionIn (now (s .entry))) c)) ⌝ }
 {
     let worklist = at.worklist;

@@ -1,7 +1,7 @@
 -- `solving::add_live` meets its contract.
 use native.Mathlib.Omega.{arith}
 use Rattle.lists.specs.Tests.{is-true}
-use Rattle.graph.specs.ByTable.{places-long, start-less, end-le}
+use Rattle.graph.specs.ByTable.{places-long, start-less, end-le, block-tail}
 use Rattle.solving.proofs.Adding.{target-in-file, added}
 use borrow.Author.Needs.{needs}
 use Rattle.solving.proofs.add_live.Statement.{statement}
@@ -46,6 +46,7 @@ join-successors-requires c κs =
           let inside = target-in-file (start .args .s .now) (start .args .places .now) (start .pre .0) (start .args .b) (start .pre .3) t m in
           omega (arith, start .pre .1, start .pre .2),
       is-true _ (start .pre .0 .inOrder),
+      block-tail (start .args .s .now) (start .args .places .now) (start .pre .0) _ (start .pre .3) (start .pre .4),
     )
 
 transfer-requires : tie.Need-transfer-requires

@@ -20,15 +20,15 @@ Inv-loop s start end outs₀ b ins edge₀ outs edge =
 abbrev μ-loop : tie.MeasureT-loop
 μ-loop s start end outs₀ b ins edge₀ outs edge = length (targetsFrom s end (edge .tag) (edge .behind))
 
-next-edge-requires : tie.Need-next-edge-requires Inv-loop μ-loop
-next-edge-requires c κs = search needs
+next-edge-in-tail-requires : tie.Need-next-edge-in-tail-requires Inv-loop μ-loop
+next-edge-in-tail-requires c κs = search needs
 
 loop-holds : tie.Need-loop-holds Inv-loop μ-loop
 loop-holds c =
     let start = c .before .before .before .before in (
       refl,
       joining-from (start .args .s .now) _ (start .args .b) _ (start .pre .1) _ _ (start .args .start) (start .pre .0) (start .pre .3) refl
-          (c .next-edge .result) (c .next-edge .ensures),
+          (c .next-edge-in-tail .result) (c .next-edge-in-tail .ensures),
     )
 
 sub-join : tie.Need-sub-join Inv-loop μ-loop
@@ -42,15 +42,15 @@ join-requires c κs =
       joining-row (start .args .s .now) _ (start .args .b) _ (start .pre .1) _ _ _ (loop .inv .1) (omega arith),
     )
 
-next-edge-requires-2 : tie.Need-next-edge-requires-2 Inv-loop μ-loop
-next-edge-requires-2 c κs =
+next-edge-requires : tie.Need-next-edge-requires Inv-loop μ-loop
+next-edge-requires c κs =
     let start = c .before .before .before .before .before .before .before .before .before .before .before .before in
     (joining-inside (start .args .s .now) _ (start .args .b) _ (start .pre .1) _ _ _ (c .before .before .before .before .before .before .before .loop .inv .1) (omega arith), start .pre .1, start .pre .4)
 
 loop-less : tie.Need-loop-less Inv-loop μ-loop
 loop-less c =
     let start = c .before .before .before .before .before .before .before .before .before .before .before .before .before in
-    joining-less (start .args .s .now) _ (start .args .b) _ (start .pre .1) _ _ _ (c .before .before .before .before .before .before .before .before .loop .inv .1) (omega arith) (c .next-edge2 .result) (c .next-edge2 .ensures)
+    joining-less (start .args .s .now) _ (start .args .b) _ (start .pre .1) _ _ _ (c .before .before .before .before .before .before .before .before .loop .inv .1) (omega arith) (c .next-edge .result) (c .next-edge .ensures)
 
 loop-again : tie.Need-loop-again Inv-loop μ-loop
 loop-again c =
@@ -59,7 +59,7 @@ loop-again c =
     let join = c .before .before .before .join in (
       join .kept .0 ∙ loop .inv .0,
       joining-more (start .args .s .now) _ (start .args .b) _ (start .pre .1) _ _ _ (loop .inv .1) (omega arith) _ (join .ensures)
-          (c .next-edge2 .result) (c .next-edge2 .ensures),
+          (c .next-edge .result) (c .next-edge .ensures),
     )
 
 same-length : tie.Need-same-length Inv-loop μ-loop
@@ -76,11 +76,11 @@ join-successors-spec =
     (tie.spec
     Inv-loop
     μ-loop
-    next-edge-requires
+    next-edge-in-tail-requires
     loop-holds
     sub-join
     join-requires
-    next-edge-requires-2
+    next-edge-requires
     loop-less
     loop-again
     same-length

@@ -45,6 +45,7 @@ visit-requires c κs =
       given .listed,
       live-tables given _ _ (loop .at) (loop .inv .2) (loop .inv .0) (loop .inv .1),
       ready given _ _ (loop .at) (loop .inv .2) more,
+      given .walked .tails,
     )
 
 loop-less : tie.Need-loop-less Inv-loop μ-loop

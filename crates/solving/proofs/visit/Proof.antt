@@ -15,7 +15,7 @@ add-live-requires : tie.Need-add-live-requires
 add-live-requires c κs =
     let start = c .before .before .before .before .before .before .before .before .before .before .before .before .before .before .before in
     let ready = start .pre .4 in
-    (start .pre .0, start .pre .1, start .pre .3, top-in-file (functionIn (start .args .s .now)) (start .args .at) ready _ _ (c .before .before .before .before .popping .ensures .0))
+    (start .pre .0, start .pre .1, start .pre .3, top-in-file (functionIn (start .args .s .now)) (start .args .at) ready _ _ (c .before .before .before .before .popping .ensures .0), start .pre .5)
 
 push-predecessors-requires : tie.Need-push-predecessors-requires
 push-predecessors-requires c κs =
