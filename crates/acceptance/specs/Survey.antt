@@ -22,7 +22,7 @@ use Rattle.lists.specs.Lack.{nodup-length-le}
 use Rattle.walks.specs.Reachable.{reachable-nodup}
 use Rattle.walks.specs.InFile.{blocks-some, reachable-in-file}
 use Rattle.graph.specs.Blocks.{blockTable, length-blockTable}
-use Rattle.graph.specs.Tables.{indexTable}
+use Rattle.graph.specs.Tables.{indexTable, Given}
 use Rattle.graph.specs.Links.{Walked}
 use Rattle.graph.specs.Few.{records-few, values-few, blocks-few}
 use Rattle.graph.specs.Room.{Blank, blank-zeros}
@@ -67,14 +67,14 @@ blank-tables =
       next = perBlock;
     }
 
--- what is handed back. Definitions are counted where refusals 2 to 5 let the file pass, and it is walked where 6 and 7 do
--- too; a table that is not come to is as it was lent.
+-- what is handed back. Definitions are counted and blocks found where refusals 2 to 5 let the file pass, and it is walked
+-- where 6 and 7 do too; a table that is not come to is as it was lent.
 pub record Surveyed (s : List ℕ) (lent back : SurveyTables) (verdict : Verdict) (blocks : BlockCounts) : Type 0 where
   pub says : verdict ≡ firstOf (fileRefusals s)
   pub all-counted : blocks .all ≡ elim (functionPasses s) [ true ↦ length (functionIn s .blocks) | false ↦ 0 ]
   pub counted : blocks .reachable ≡ elim (functionPasses s) [ true ↦ length (reachable (functionIn s)) | false ↦ 0 ]
   pub counts : back .counts ≡ elim (recordsPass s) [ true ↦ notedAll (lent .counts) (records s) | false ↦ lent .counts ]
-  pub places : back .places ≡ elim (functionPasses s) [ true ↦ padded (length (lent .places)) (blockTable s) | false ↦ lent .places ]
+  pub places : back .places ≡ elim (recordsPass s) [ true ↦ padded (length (lent .places)) (blockTable s) | false ↦ lent .places ]
   pub order : back .order ≡ elim (functionPasses s) [ true ↦ padded (length (lent .order)) (reachable (functionIn s)) | false ↦ lent .order ]
   pub index : back .index ≡ elim (functionPasses s) [ true ↦ indexTable (functionIn s) (length (lent .index)) | false ↦ lent .index ]
   pub stack : back .stack ≡ lent .stack
@@ -155,31 +155,36 @@ readable-countable {s} r b =
       zeros = zeros-at (b .1);
     }
 
--- THE TABLES OF A FILE THAT WAS WALKED, as the layers behind read them.
+-- THE TABLES OF A FILE THAT WAS READ, as the layers behind read them.
 module _ {s : List ℕ} (r : Readable s) where
+  -- where its blocks start,
+  pub table-given : {places : List ℕ} {n : ℕ} → largestBlocks < n → places ≡ padded n (blockTable s) → Given s places
+  table-given {places} {n} long isTable =
+      record {
+        inOrder = r .inOrder;
+        inFile = r .inFile;
+        table =
+            padded-own places (blockTable s) n isTable
+            (ap length isTable ∙ length-padded n (blockTable s) (omega (arith, length-blockTable s, blocks-few s (r .few))));
+      }
+
+  -- and its walk.
   pub numbered-walked :
       {places order : List ℕ} {count n m : ℕ} → largestBlocks < n → places ≡ padded n (blockTable s) → largestBlocks ≤ m
       → order ≡ padded m (reachable (functionIn s)) → count ≡ length (reachable (functionIn s)) → Walked s places order count
   numbered-walked {places} {order} {count} {n} {m} long isTable listed isOrder counted =
       let f = functionIn s in
-      let few = blocks-few s (r .few) in
-      let places-long : length places ≡ n =
-      ap length isTable ∙ length-padded n (blockTable s) (omega (arith, length-blockTable s)) in
       let order-long : length order ≡ m =
       ap length isOrder
       ∙ length-padded m (reachable f)
       (omega (
         arith,
+        blocks-few s (r .few),
         nodup-length-le (length (f .blocks)) (reachable f) (reachable-nodup f)
             (λ x. reachable-in-file f (r .inFile) (blocks-some (records s) (r .inOrder))),
       )) in
       record {
-        given =
-            record {
-              inOrder = r .inOrder;
-              inFile = r .inFile;
-              table = padded-own places (blockTable s) n isTable places-long;
-            };
+        given = table-given long isTable;
         counted = counted;
         listed = padded-own order (reachable f) m isOrder order-long;
       }
@@ -191,9 +196,10 @@ pub surveyed-walked :
 surveyed-walked {s} {lent} {back} b g a =
     let f = functionIn s in
     let passes = accepted-passes s (subst (λ v. T (isAccepted v)) (g .says) a) .0 in
-    numbered-walked (records-readable s (and-left (recordsPass s) (isAccepted (firstOf (functionRefusals s))) passes))
+    let read = and-left (recordsPass s) (isAccepted (firstOf (functionRefusals s))) passes in
+    numbered-walked (records-readable s read)
     (b .places .0)
-    (g .places ∙ chosen (functionPasses s) (padded (length (lent .places)) (blockTable s)) (lent .places) passes)
+    (g .places ∙ chosen (recordsPass s) (padded (length (lent .places)) (blockTable s)) (lent .places) read)
     (b .order .0)
     (g .order ∙ chosen (functionPasses s) (padded (length (lent .order)) (reachable f)) (lent .order) passes)
     (g .counted ∙ chosen (functionPasses s) (length (reachable f)) 0 passes)

@@ -1,18 +1,10 @@
 // The survey of a file: refusals 2 to 8, lowest first, over lent tables. They are filled on the way, and what lies behind
 // reads an accepted file by them.
 ghost use mathlib.Core.Path.{_≡_};
-ghost use lib.ListN.{length};
-ghost use Rattle.rules.specs.Limits.{largestBlocks};
-ghost use Rattle.rules.specs.Lists.{padded};
-ghost use Rattle.rules.specs.File.{functionIn};
 ghost use Rattle.rules.specs.Refusals.{firstOf};
-ghost use Rattle.graph.specs.Blocks.{blockTable};
-ghost use Rattle.graph.specs.Tables.{tables, Numbered};
 ghost use Rattle.graph.specs.Links.{Walked};
-ghost use Rattle.graph.specs.Room.{Blank};
-ghost use Rattle.acceptance.specs.Stages.{walkRefusals, Readable};
+ghost use Rattle.acceptance.specs.Stages.{walkRefusals};
 ghost use Rattle.acceptance.specs.Survey.{surveyTables, BlankTables, Surveyed};
-ghost use Prim.Native.Nat.{suc};
 use crate::contexts::marked_context;
 use crate::verdict::function_verdict;
 use crate::verdict::is_accepted;
@@ -44,23 +36,6 @@ pub fn walk_verdict(s: &[u8], places: &[usize], order: &[usize], count: usize) -
     Verdict::Accepted
 }
 
-// The block table and the walk of a file that refusals 2 to 5 let pass. Its blocks are counted on the way.
-fn walk_blocks(
-    s: &[u8],
-    places: &mut [usize],
-    order: &mut [usize],
-    index: &mut [usize],
-    stack: &mut [usize],
-    next: &mut [usize],
-) -> BlockCounts
-    requires { ⌜ Readable (now s) × Blank (suc largestBlocks) (now places) × Blank largestBlocks (now order) × Blank largestBlocks (now index) × Blank largestBlocks (now stack) × Blank largestBlocks (now next) ⌝ }
-    ensures { λ r. ⌜ (r .all ≡ length (functionIn (now (s .entry)) .blocks)) × (now (places .exit) ≡ padded (length (now (places .entry))) (blockTable (now (s .entry)))) × Numbered (functionIn (now (s .entry))) (tables (now (order .entry)) (now (index .entry)) (now (stack .entry)) (now (next .entry)) 0 0) (tables (now (order .exit)) (now (index .exit)) (now (stack .exit)) (now (next .exit)) 0 (r .reachable)) ⌝ }
-{
-    let all = places_of(s, 2, places);
-    let reachable = post_order(s, places, order, index, stack, next);
-    BlockCounts { all, reachable }
-}
-
 // Refusals 2 to 8, and the tables as far as the file was read.
 pub fn survey(
     s: &[u8],
@@ -84,7 +59,8 @@ pub fn survey(
             },
         };
     }
-    let of_function = function_verdict(s, counts);
+    let all = places_of(s, 2, places);
+    let of_function = function_verdict(s, counts, places);
     if !is_accepted(of_function) {
         return SurveyAnswer {
             verdict: of_function,
@@ -94,9 +70,9 @@ pub fn survey(
             },
         };
     }
-    let blocks = walk_blocks(s, places, order, index, stack, next);
+    let reachable = post_order(s, places, order, index, stack, next);
     SurveyAnswer {
-        verdict: walk_verdict(s, places, order, blocks.reachable),
-        blocks,
+        verdict: walk_verdict(s, places, order, reachable),
+        blocks: BlockCounts { all, reachable },
     }
 }

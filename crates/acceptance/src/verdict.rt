@@ -1,13 +1,10 @@
 // What is said of a file before and without the walk: refusals 2 to 5, of its records, and 6 and 7, of its function.
 ghost use mathlib.Core.Path.{_≡_};
-ghost use Prim.Native.Nat.{_≤_};
-ghost use lib.ListN.{length};
-ghost use Rattle.rules.specs.Limits.{largestBlocks};
 ghost use Rattle.rules.specs.Records.{records};
-ghost use Rattle.rules.specs.File.{functionIn};
 ghost use Rattle.rules.specs.Refusals.{refusalNumber, firstOf, _when_};
 ghost use Rattle.rules.specs.Services.{isAccepted};
 ghost use Rattle.checks.specs.Definitions.{notedAll, Countable};
+ghost use Rattle.graph.specs.Tables.{Given};
 ghost use Rattle.acceptance.specs.Stages.{thenRefused, recordRefusals, functionRefusals};
 use checks::counts::too_many;
 use checks::definitions::not_defined_once;
@@ -76,15 +73,16 @@ pub fn records_verdict(s: &[u8]) -> Verdict
     Verdict::Accepted
 }
 
-// Refusals 6 and 7: what is wrong with the function that they are. The table then has how often each value is defined.
-pub fn function_verdict(s: &[u8], counts: &mut [u32]) -> Verdict
-    requires { ⌜ Countable (now s) (now counts) × (length (functionIn (now s) .blocks) ≤ largestBlocks) ⌝ }
+// Refusals 6 and 7: what is wrong with the function that they are, by its block table. The table of counts then has how
+// often each value is defined.
+pub fn function_verdict(s: &[u8], counts: &mut [u32], places: &[usize]) -> Verdict
+    requires { ⌜ Countable (now s) (now counts) × Given (now s) (now places) ⌝ }
     ensures { λ r. ⌜ (r ≡ firstOf (functionRefusals (now (s .entry)))) × (now (counts .exit) ≡ notedAll (now (counts .entry)) (records (now (s .entry)))) ⌝ }
 {
     if not_defined_once(s, counts) {
         return Verdict::NotDefinedOnce;
     }
-    if unsound(s) {
+    if unsound(s, places) {
         return Verdict::Unsound;
     }
     Verdict::Accepted

@@ -2,21 +2,17 @@
 ghost use mathlib.Core.Path.{_≡_};
 ghost use mathlib.Core.Bool.{true};
 ghost use Prim.Native.Nat.{_+_, _<_, _≤_};
-ghost use lib.ListN.{length};
-ghost use Rattle.rules.specs.Limits.{largestBlocks};
 ghost use Rattle.rules.specs.Records.{recordAt, recordCount, records};
 ghost use Rattle.rules.specs.File.{ordered, functionIn};
-ghost use Rattle.rules.specs.Refusals.{fit, numbersInFile};
+ghost use Rattle.rules.specs.Refusals.{fit};
 ghost use Rattle.records.specs.Places.{rest};
 ghost use Rattle.records.specs.Parts.{argument};
 ghost use Rattle.graph.specs.Tables.{Given};
 ghost use Rattle.soundness.specs.Fitting.{argumentsFirst, parametersFirst, argumentFits, edgeFits, fitting};
-use graph::places::places_of;
 use records::in_order::kind_at;
 use records::in_order::words_at;
 use records::in_order::words_from;
 use records::values::size_of;
-use rules::LARGEST_BLOCKS;
 use rules::RECORD_BYTES;
 use rules::Words;
 
@@ -72,7 +68,7 @@ fn edge_fits(s: &[u8], places: &[usize], i: usize) -> bool
 }
 
 // Whether every edge of a file fits its target, found by the file's block table.
-fn each_edge_fits(s: &[u8], places: &[usize]) -> bool
+pub fn edges_fit(s: &[u8], places: &[usize]) -> bool
     requires { ⌜ Given (now s) (now places) ⌝ }
     ensures { λ r. ⌜ r ≡ fitting (functionIn (now (s .entry))) (records (now (s .entry))) ⌝ }
 {
@@ -85,14 +81,4 @@ fn each_edge_fits(s: &[u8], places: &[usize]) -> bool
         i += 1;
     }
     true
-}
-
-// Whether every edge of a file in order, with its numbers in it and not too many blocks, fits its target.
-pub fn edges_fit(s: &[u8]) -> bool
-    requires { ⌜ (ordered 0 (records (now s)) ≡ true) × (numbersInFile (functionIn (now s)) ≡ true) × (length (functionIn (now s) .blocks) ≤ largestBlocks) ⌝ }
-    ensures { λ r. ⌜ r ≡ fitting (functionIn (now (s .entry))) (records (now (s .entry))) ⌝ }
-{
-    let mut places: [usize; LARGEST_BLOCKS + 1] = [0; LARGEST_BLOCKS + 1];
-    places_of(s, 2, &mut places);
-    each_edge_fits(s, &places)
 }

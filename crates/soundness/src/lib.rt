@@ -1,12 +1,9 @@
 // Refusal 7: the faults of a file in order that its records show only together.
 ghost use mathlib.Core.Path.{_≡_};
-ghost use mathlib.Core.Bool.{true, not};
-ghost use Prim.Native.Nat.{_≤_};
-ghost use lib.ListN.{length};
-ghost use Rattle.rules.specs.Limits.{largestBlocks};
-ghost use Rattle.rules.specs.Records.{records};
-ghost use Rattle.rules.specs.File.{ordered, functionIn};
-ghost use Rattle.rules.specs.Refusals.{numbersInFile, sound};
+ghost use mathlib.Core.Bool.{not};
+ghost use Rattle.rules.specs.File.{functionIn};
+ghost use Rattle.rules.specs.Refusals.{sound};
+ghost use Rattle.graph.specs.Tables.{Given};
 use crate::fitting::edges_fit;
 use crate::standing::all_stand;
 
@@ -14,13 +11,13 @@ pub mod fitting;
 pub mod standing;
 
 // Whether a file that refusals 3 to 5 let pass is unsound: a block that does not end once, results, edges or contexts where
-// the flags forbid them, an edge to block 0, or an edge that does not fit its target.
-pub fn unsound(s: &[u8]) -> bool
-    requires { ⌜ (ordered 0 (records (now s)) ≡ true) × (numbersInFile (functionIn (now s)) ≡ true) × (length (functionIn (now s) .blocks) ≤ largestBlocks) ⌝ }
+// the flags forbid them, an edge to block 0, or an edge that does not fit its target, found by the file's block table.
+pub fn unsound(s: &[u8], places: &[usize]) -> bool
+    requires { ⌜ Given (now s) (now places) ⌝ }
     ensures { λ r. ⌜ r ≡ not (sound (functionIn (now (s .entry)))) ⌝ }
 {
     if all_stand(s) {
-        return !edges_fit(s);
+        return !edges_fit(s, places);
     }
     true
 }

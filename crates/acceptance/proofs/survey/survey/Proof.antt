@@ -1,8 +1,11 @@
 -- `acceptance::survey::survey` meets its contract.
-use Rattle.acceptance.proofs.Surveying.{ends-at-records, ends-at-function, ends-with-walk}
-use Rattle.acceptance.specs.Survey.{readable-countable, numbered-walked}
+use mathlib.Core.Path.{_∙_}
+use Rattle.lists.specs.Tests.{is-true}
+use Rattle.graph.specs.Blocks.{length-blockPlaces}
+use Rattle.graph.specs.Room.{table-room, walk-lent}
 use Rattle.acceptance.specs.Stages.{records-readable, said-no, said-yes}
-use Rattle.graph.specs.Few.{blocks-few}
+use Rattle.acceptance.specs.Survey.{readable-countable, table-given, numbered-walked}
+use Rattle.acceptance.proofs.Surveying.{ends-at-records, ends-at-function, ends-with-walk}
 use borrow.Author.Needs.{needs}
 use Rattle.acceptance.proofs.survey.survey.Statement.{statement}
 use Rattle.acceptance.proofs.survey.survey.Tie as tie
@@ -14,14 +17,23 @@ is-accepted-requires : tie.Need-is-accepted-requires
 is-accepted-requires c κs = search needs
 
 returns : tie.Need-returns
-returns c = ends-at-records (c .before .before .before .before .before .before .before .before .before .before .args .s .now) _ _ _ _ _ _ _ (said-no (c .before .is-accepted .ensures) (c .before .before .records-verdict .ensures) (c .if1 .taken)) (c .before .before .records-verdict .ensures)
+returns c =
+    let start = c .before .before .before .before .before .before .before .before .before .before in
+    ends-at-records (start .args .s .now) _ _ _ _ _ _ _ (said-no (c .before .is-accepted .ensures) (c .before .before .records-verdict .ensures) (c .if1 .taken)) (c .before .before .records-verdict .ensures)
 
-function-verdict-requires : tie.Need-function-verdict-requires
-function-verdict-requires c κs =
+places-of-requires : tie.Need-places-of-requires
+places-of-requires c κs =
     let start = c .before .before .before .before .before .before .before .before .before .before .before in
     let s = start .args .s .now in
     let r = records-readable s (said-yes (c .before .before .is-accepted .ensures) (c .before .before .before .records-verdict .ensures) (c .before .if1 .left)) in
-    (readable-countable r (start .pre .counts), blocks-few s (r .few))
+    (table-room s (r .few) (r .inOrder) (r .inFile) _ (start .pre .places .0), start .pre .places .1, is-true _ (r .inOrder))
+
+function-verdict-requires : tie.Need-function-verdict-requires
+function-verdict-requires c κs =
+    let start = c .before .before .before .before .before .before .before .before .before .before .before .before .before .before .before .before in
+    let s = start .args .s .now in
+    let r = records-readable s (said-yes (c .before .before .before .before .before .before .before .is-accepted .ensures) (c .before .before .before .before .before .before .before .before .records-verdict .ensures) (c .before .before .before .before .before .before .if1 .left)) in
+    (readable-countable r (start .pre .counts), table-given r (start .pre .places .0) (c .before .before .before .before .places-of .ensures .1))
 
 is-accepted-requires-2 : tie.Need-is-accepted-requires-2
 is-accepted-requires-2 c κs = search needs
@@ -29,17 +41,28 @@ is-accepted-requires-2 c κs = search needs
 same-length : tie.Need-same-length
 same-length c = search needs
 
-returns-2 : tie.Need-returns-2
-returns-2 c = ends-at-function (c .before .before .before .before .before .before .before .before .before .before .before .before .before .before .before .before .args .s .now) _ _ _ _ _ _ _ (said-yes (c .before .before .before .before .before .before .before .is-accepted .ensures) (c .before .before .before .before .before .before .before .before .records-verdict .ensures) (c .before .before .before .before .before .before .if1 .left)) _ (c .before .before .before .before .function-verdict .ensures .1) (said-no (c .before .is-accepted2 .ensures) (c .before .before .before .before .function-verdict .ensures .0) (c .if2 .taken)) (c .before .before .before .before .function-verdict .ensures .0)
-
-walk-blocks-requires : tie.Need-walk-blocks-requires
-walk-blocks-requires c κs = (records-readable (c .before .before .before .before .before .before .before .before .before .before .before .before .before .before .before .before .before .before .before .before .before .args .s .now) (said-yes (c .before .before .before .before .before .before .before .before .before .before .before .before .is-accepted .ensures) (c .before .before .before .before .before .before .before .before .before .before .before .before .before .records-verdict .ensures) (c .before .before .before .before .before .before .before .before .before .before .before .if1 .left)), c .before .before .before .before .before .before .before .before .before .before .before .before .before .before .before .before .before .before .before .before .before .pre .places, c .before .before .before .before .before .before .before .before .before .before .before .before .before .before .before .before .before .before .before .before .before .pre .order, c .before .before .before .before .before .before .before .before .before .before .before .before .before .before .before .before .before .before .before .before .before .pre .index, c .before .before .before .before .before .before .before .before .before .before .before .before .before .before .before .before .before .before .before .before .before .pre .stack, c .before .before .before .before .before .before .before .before .before .before .before .before .before .before .before .before .before .before .before .before .before .pre .next)
-
-walk-verdict-requires : tie.Need-walk-verdict-requires
-walk-verdict-requires c κs = numbered-walked (records-readable (c .before .before .before .before .before .before .before .before .before .before .before .before .before .before .before .before .before .before .before .before .before .before .before .before .before .before .before .before .before .before .before .before .before .before .args .s .now) (said-yes (c .before .before .before .before .before .before .before .before .before .before .before .before .before .before .before .before .before .before .before .before .before .before .before .before .before .is-accepted .ensures) (c .before .before .before .before .before .before .before .before .before .before .before .before .before .before .before .before .before .before .before .before .before .before .before .before .before .before .records-verdict .ensures) (c .before .before .before .before .before .before .before .before .before .before .before .before .before .before .before .before .before .before .before .before .before .before .before .before .if1 .left))) (c .before .before .before .before .before .before .before .before .before .before .before .before .before .before .before .before .before .before .before .before .before .before .before .before .before .before .before .before .before .before .before .before .before .before .pre .places .0) (c .before .before .before .before .before .before .before .before .before .before .before .before .walk-blocks .ensures .1) (c .before .before .before .before .before .before .before .before .before .before .before .before .before .before .before .before .before .before .before .before .before .before .before .before .before .before .before .before .before .before .before .before .before .before .pre .order .0) (c .before .before .before .before .before .before .before .before .before .before .before .before .walk-blocks .ensures .2 .order) (c .before .before .before .before .before .before .before .before .before .before .before .before .walk-blocks .ensures .2 .count)
-
 same-length-2 : tie.Need-same-length-2
 same-length-2 c = search needs
+
+returns-2 : tie.Need-returns-2
+returns-2 c =
+    let start = c .before .before .before .before .before .before .before .before .before .before .before .before .before .before .before .before .before .before .before .before .before in
+    let found = c .before .before .before .before .before .before .before .before .before .places-of in
+    let of-function = c .before .before .before .before .function-verdict in
+    ends-at-function (start .args .s .now) _ _ _ _ _ _ _ (said-yes (c .before .before .before .before .before .before .before .before .before .before .before .before .is-accepted .ensures) (c .before .before .before .before .before .before .before .before .before .before .before .before .before .records-verdict .ensures) (c .before .before .before .before .before .before .before .before .before .before .before .if1 .left)) _ _ (of-function .ensures .1) (found .ensures .1) (said-no (c .before .is-accepted2 .ensures) (of-function .ensures .0) (c .if2 .taken)) (of-function .ensures .0)
+
+post-order-requires : tie.Need-post-order-requires
+post-order-requires c κs =
+    let start = c .before .before .before .before .before .before .before .before .before .before .before .before .before .before .before .before .before .before .before .before .before .before .before .before .before .before in
+    let s = start .args .s .now in
+    let r = records-readable s (said-yes (c .before .before .before .before .before .before .before .before .before .before .before .before .before .before .before .before .before .is-accepted .ensures) (c .before .before .before .before .before .before .before .before .before .before .before .before .before .before .before .before .before .before .records-verdict .ensures) (c .before .before .before .before .before .before .before .before .before .before .before .before .before .before .before .before .if1 .left)) in
+    walk-lent s (r .few) (r .inOrder) (r .inFile) _ _ _ _ _ (table-given r (start .pre .places .0) (c .before .before .before .before .before .before .before .before .before .before .before .before .before .before .places-of .ensures .1) .table) (start .pre .order) (start .pre .index) (start .pre .stack) (start .pre .next)
+
+walk-verdict-requires : tie.Need-walk-verdict-requires
+walk-verdict-requires c κs =
+    let start = c .before .before .before .before .before .before .before .before .before .before .before .before .before .before .before .before .before .before .before .before .before .before .before .before .before .before .before .before .before .before .before .before .before .before .before .before .before in
+    let walk = c .before .before .before .before .before .before .before .before .before .before .post-order in
+    numbered-walked (records-readable (start .args .s .now) (said-yes (c .before .before .before .before .before .before .before .before .before .before .before .before .before .before .before .before .before .before .before .before .before .before .before .before .before .before .before .before .is-accepted .ensures) (c .before .before .before .before .before .before .before .before .before .before .before .before .before .before .before .before .before .before .before .before .before .before .before .before .before .before .before .before .before .records-verdict .ensures) (c .before .before .before .before .before .before .before .before .before .before .before .before .before .before .before .before .before .before .before .before .before .before .before .before .before .before .before .if1 .left))) (start .pre .places .0) (c .before .before .before .before .before .before .before .before .before .before .before .before .before .before .before .before .before .before .before .before .before .before .before .before .before .places-of .ensures .1) (start .pre .order .0) (walk .ensures .order) (walk .ensures .count)
 
 same-length-3 : tie.Need-same-length-3
 same-length-3 c = search needs
@@ -56,8 +79,16 @@ same-length-6 c = search needs
 same-length-7 : tie.Need-same-length-7
 same-length-7 c = search needs
 
+same-length-8 : tie.Need-same-length-8
+same-length-8 c = search needs
+
 returns-3 : tie.Need-returns-3
-returns-3 c = ends-with-walk (c .before .before .before .before .before .before .before .before .before .before .before .before .before .before .before .before .before .before .before .before .before .before .before .before .before .before .before .before .before .before .before .before .before .before .before .args .s .now) _ _ _ _ _ _ _ (said-yes (c .before .before .before .before .before .before .before .before .before .before .before .before .before .before .before .before .before .before .before .before .before .before .before .before .before .before .is-accepted .ensures) (c .before .before .before .before .before .before .before .before .before .before .before .before .before .before .before .before .before .before .before .before .before .before .before .before .before .before .before .records-verdict .ensures) (c .before .before .before .before .before .before .before .before .before .before .before .before .before .before .before .before .before .before .before .before .before .before .before .before .before .if1 .left)) _ (c .before .before .before .before .before .before .before .before .before .before .before .before .before .before .before .before .before .before .before .before .before .before .before .function-verdict .ensures .1) (said-yes (c .before .before .before .before .before .before .before .before .before .before .before .before .before .before .before .before .before .before .before .before .is-accepted2 .ensures) (c .before .before .before .before .before .before .before .before .before .before .before .before .before .before .before .before .before .before .before .before .before .before .before .function-verdict .ensures .0) (c .before .before .before .before .before .before .before .before .before .before .before .before .before .before .before .before .before .before .before .if2 .left)) (c .walk-verdict .ensures) _ _ _ _ _ _ (c .before .before .before .before .before .before .before .before .before .before .before .before .before .walk-blocks .ensures .0) (c .before .before .before .before .before .before .before .before .before .before .before .before .before .walk-blocks .ensures .1) (c .before .before .before .before .before .before .before .before .before .before .before .before .before .walk-blocks .ensures .2)
+returns-3 c =
+    let start = c .before .before .before .before .before .before .before .before .before .before .before .before .before .before .before .before .before .before .before .before .before .before .before .before .before .before .before .before .before .before .before .before .before .before .before .before .before .before in
+    let s = start .args .s .now in
+    let found = c .before .before .before .before .before .before .before .before .before .before .before .before .before .before .before .before .before .before .before .before .before .before .before .before .before .before .places-of in
+    let of-function = c .before .before .before .before .before .before .before .before .before .before .before .before .before .before .before .before .before .before .before .before .before .function-verdict in
+    ends-with-walk s _ _ _ _ _ _ _ (said-yes (c .before .before .before .before .before .before .before .before .before .before .before .before .before .before .before .before .before .before .before .before .before .before .before .before .before .before .before .before .before .is-accepted .ensures) (c .before .before .before .before .before .before .before .before .before .before .before .before .before .before .before .before .before .before .before .before .before .before .before .before .before .before .before .before .before .before .records-verdict .ensures) (c .before .before .before .before .before .before .before .before .before .before .before .before .before .before .before .before .before .before .before .before .before .before .before .before .before .before .before .before .if1 .left)) _ _ (of-function .ensures .1) (found .ensures .1) (said-yes (c .before .before .before .before .before .before .before .before .before .before .before .before .before .before .before .before .before .before .is-accepted2 .ensures) (of-function .ensures .0) (c .before .before .before .before .before .before .before .before .before .before .before .before .before .before .before .before .before .if2 .left)) (c .walk-verdict .ensures) _ _ _ _ _ (found .ensures .0 ∙ length-blockPlaces s) (c .before .before .before .before .before .before .before .before .before .before .before .post-order .ensures)
 
 pub survey-spec : {M : Type 1} → statement M
 survey-spec =
@@ -66,16 +97,18 @@ survey-spec =
     records-verdict-requires
     is-accepted-requires
     returns
+    places-of-requires
     function-verdict-requires
     is-accepted-requires-2
     same-length
-    returns-2
-    walk-blocks-requires
-    walk-verdict-requires
     same-length-2
+    returns-2
+    post-order-requires
+    walk-verdict-requires
     same-length-3
     same-length-4
     same-length-5
     same-length-6
     same-length-7
+    same-length-8
     returns-3)

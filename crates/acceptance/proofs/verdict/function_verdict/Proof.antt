@@ -15,24 +15,22 @@ same-length : tie.Need-same-length
 same-length c = search needs
 
 returns : tie.Need-returns
-returns c = (sym (function-twice (c .before .before .before .before .before .before .before .args .s .now) (sym (c .before .before .before .not-defined-once .ensures .0) ∙ c .if1 .taken)), c .before .before .before .not-defined-once .ensures .1)
+returns c = (sym (function-twice (c .before .before .before .before .before .before .before .before .args .s .now) (sym (c .before .before .before .not-defined-once .ensures .0) ∙ c .if1 .taken)), c .before .before .before .not-defined-once .ensures .1)
 
 unsound-requires : tie.Need-unsound-requires
-unsound-requires c κs =
-    let pre = c .before .before .before .before .before .before .before .pre in
-    (pre .0 .inOrder, pre .0 .inFile, pre .1)
+unsound-requires c κs = search needs
 
 same-length-2 : tie.Need-same-length-2
 same-length-2 c = search needs
 
 returns-2 : tie.Need-returns-2
-returns-2 c = (sym (function-last (c .before .before .before .before .before .before .before .before .before .args .s .now) (sym (c .before .before .before .before .before .not-defined-once .ensures .0) ∙ c .before .before .if1 .left) ∙ ap (λ b. elim b as (λ _. Verdict) [ true ↦ verdict.Unsound | false ↦ verdict.Accepted ]) (sym (c .before .unsound .ensures) ∙ c .if2 .taken)), c .before .before .before .before .before .not-defined-once .ensures .1)
+returns-2 c = (sym (function-last (c .before .before .before .before .before .before .before .before .before .before .args .s .now) (sym (c .before .before .before .before .before .not-defined-once .ensures .0) ∙ c .before .before .if1 .left) ∙ ap (λ b. elim b as (λ _. Verdict) [ true ↦ verdict.Unsound | false ↦ verdict.Accepted ]) (sym (c .before .unsound .ensures) ∙ c .if2 .taken)), c .before .before .before .before .before .not-defined-once .ensures .1)
 
 same-length-3 : tie.Need-same-length-3
 same-length-3 c = search needs
 
 returns-3 : tie.Need-returns-3
-returns-3 c = (sym (function-last (c .before .before .before .before .before .before .before .before .before .args .s .now) (sym (c .before .before .before .before .before .not-defined-once .ensures .0) ∙ c .before .before .if1 .left) ∙ ap (λ b. elim b as (λ _. Verdict) [ true ↦ verdict.Unsound | false ↦ verdict.Accepted ]) (sym (c .before .unsound .ensures) ∙ c .if2 .left)), c .before .before .before .before .before .not-defined-once .ensures .1)
+returns-3 c = (sym (function-last (c .before .before .before .before .before .before .before .before .before .before .args .s .now) (sym (c .before .before .before .before .before .not-defined-once .ensures .0) ∙ c .before .before .if1 .left) ∙ ap (λ b. elim b as (λ _. Verdict) [ true ↦ verdict.Unsound | false ↦ verdict.Accepted ]) (sym (c .before .unsound .ensures) ∙ c .if2 .left)), c .before .before .before .before .before .not-defined-once .ensures .1)
 
 pub function-verdict-spec : {M : Type 1} → statement M
 function-verdict-spec =

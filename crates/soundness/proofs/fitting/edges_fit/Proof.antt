@@ -1,42 +1,66 @@
 -- `soundness::fitting::edges_fit` meets its contract.
-use mathlib.Core.Path.{subst, sym}
-use native.Mathlib.Omega.{arith}
-use Prim.Native.Nat.{suc}
-use Rattle.rules.specs.Limits.{largestBlocks}
-use lib.Dec.{T}
-use Rattle.graph.specs.Zeros.{zeros-zeros, padded-own}
-use Rattle.graph.specs.Blocks.{blockTable, length-blockPlaces}
 use borrow.Author.Needs.{needs}
+use Rattle.soundness.proofs.FittingCases.{rest-end}
+use Rattle.soundness.specs.Fitting.{fitting}
+use Rattle.records.specs.Places.{rest, rest-all, rest-next}
+use Rattle.rules.specs.File.{functionIn}
+use Rattle.rules.specs.Records.{recordCount, records}
+use borrow.Author.Tests.{not-true, not-false}
+use mathlib.Core.Path.{_≡_, sym, ap, _∙_}
+use mathlib.Core.Bool.{_&&_}
+use Prim.Native.Nat.{_≤_, _-_, _+_}
 use Rattle.soundness.proofs.fitting.edges_fit.Statement.{statement}
 use Rattle.soundness.proofs.fitting.edges_fit.Tie as tie
 
-slice-aggregate-places-of : tie.Need-slice-aggregate-places-of
-slice-aggregate-places-of c = search needs
+abbrev Inv-loop : tie.InvT-loop
+Inv-loop s places n i₀ i = (i ≤ recordCount s) × (fitting (functionIn s) (rest s i) ≡ fitting (functionIn s) (records s))
 
-places-of-requires : tie.Need-places-of-requires
-places-of-requires c κs =
-    (omega (arith, c .before .before .pre .2, length-blockPlaces (c .before .before .args .s .now)), zeros-zeros (suc largestBlocks), c .before .before .pre .0)
+abbrev μ-loop : tie.MeasureT-loop
+μ-loop s places n i₀ i = recordCount s - i
 
-slice-aggregate-each-edge-fits : tie.Need-slice-aggregate-each-edge-fits
-slice-aggregate-each-edge-fits c = search needs
+loop-holds : tie.Need-loop-holds Inv-loop μ-loop
+loop-holds c = let s = c .before .before .args .s .now in (search needs, ap (fitting (functionIn s)) (rest-all s))
 
-each-edge-fits-requires : tie.Need-each-edge-fits-requires
-each-edge-fits-requires c κs =
-    record {
-      inOrder = subst T (sym (c .before .before .before .before .before .pre .0)) tt;
-      inFile = subst T (sym (c .before .before .before .before .before .pre .1)) tt;
-      table = padded-own _ (blockTable (c .before .before .before .before .before .args .s .now)) _ (c .before .before .places-of .ensures .1) (search needs);
-    }
+edge-fits-requires : tie.Need-edge-fits-requires Inv-loop μ-loop
+edge-fits-requires c κs = search needs
 
-returns : tie.Need-returns
-returns c = search needs
+returns : tie.Need-returns Inv-loop μ-loop
+returns c =
+    let s = c .before .before .before .before .before .before .args .s .now in
+    let i = c .before .before .before .loop .i in
+    let f = functionIn s in
+    let no = sym (c .before .edge-fits .ensures) ∙ not-true (c .before .edge-fits .result) (c .if1 .taken) in
+    sym (ap (λ b. b && fitting f (rest s (i + 1))) no) ∙ sym (ap (fitting f) (rest-next s i (search needs))) ∙ c .before .before .before .loop .inv .1
+
+add-i : tie.Need-add-i Inv-loop μ-loop
+add-i c = search needs
+
+loop-less : tie.Need-loop-less Inv-loop μ-loop
+loop-less c = search needs
+
+loop-again : tie.Need-loop-again Inv-loop μ-loop
+loop-again c =
+    let s = c .before .before .before .before .before .before .args .s .now in
+    let i = c .before .before .before .loop .i in
+    let f = functionIn s in
+    let yes = sym (c .before .edge-fits .ensures) ∙ not-false (c .before .edge-fits .result) (c .if1 .left) in
+    (search needs, sym (ap (λ b. b && fitting f (rest s (i + 1))) yes) ∙ sym (ap (fitting f) (rest-next s i (search needs))) ∙ c .before .before .before .loop .inv .1)
+
+returns-2 : tie.Need-returns-2 Inv-loop μ-loop
+returns-2 c =
+    let s = c .before .before .before .before .args .s .now in
+    sym (ap (fitting (functionIn s)) (rest-end s (c .before .loop .i) (c .before .loop .inv .0) (search needs))) ∙ c .before .loop .inv .1
 
 pub edges-fit-spec : {M : Type 1} → statement M
 edges-fit-spec =
     tie.close
     (tie.spec
-    slice-aggregate-places-of
-    places-of-requires
-    slice-aggregate-each-edge-fits
-    each-edge-fits-requires
-    returns)
+    Inv-loop
+    μ-loop
+    loop-holds
+    edge-fits-requires
+    returns
+    add-i
+    loop-less
+    loop-again
+    returns-2)
