@@ -3,3 +3,4 @@ pub mod Ending
 pub mod Holding
 pub mod Fitting
 pub mod Soundness
+pub mod Tails
