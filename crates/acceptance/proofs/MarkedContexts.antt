@@ -17,6 +17,7 @@ use Rattle.rules.specs.declared.Record.{Record}
 use Rattle.rules.specs.declared.Words.{Words}
 use Rattle.lists.specs.Anys.{any-concatMap}
 use Rattle.graph.specs.Between.{between, between-none, between-next}
+use Rattle.graph.specs.Tails.{NoTail, named-behind}
 use Rattle.graph.specs.Blocks.{contexts-by-place}
 use Rattle.graph.specs.Links.{Walked}
 use Rattle.graph.specs.Tables.{Given}
@@ -53,6 +54,10 @@ module _ (s : List ℕ) where
 
   pub marked-none : (p q : ℕ) → p ≡ q → markedBetween p q ≡ false
   marked-none p q e = rw (e, between-none s q) refl
+
+  -- one is found behind places where no tail stands
+  pub marked-behind : (p r q : ℕ) → p ≤ r → r ≤ q → q ≤ recordCount s → NoTail s p r → markedBetween r q ≡ markedBetween p q
+  marked-behind p r q l m k none = ap (any (isMarked f)) (sym (named-behind s 9 p r q (omega arith) l m k none))
 
   -- a block has one if one stands between its places
   pub blockMarked-by-table :

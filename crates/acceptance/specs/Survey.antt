@@ -21,11 +21,13 @@ use Rattle.graph.specs.Zeros.{zeros-at, length-padded, padded-own}
 use Rattle.lists.specs.Lack.{nodup-length-le}
 use Rattle.walks.specs.Reachable.{reachable-nodup}
 use Rattle.walks.specs.InFile.{blocks-some, reachable-in-file}
+use Rattle.graph.specs.Tails.{TailsLast}
 use Rattle.graph.specs.Blocks.{blockTable, length-blockTable}
 use Rattle.graph.specs.Tables.{indexTable, Given}
 use Rattle.graph.specs.Links.{Walked}
 use Rattle.graph.specs.Few.{records-few, values-few, blocks-few}
 use Rattle.graph.specs.Room.{Blank, blank-zeros}
+use Rattle.soundness.specs.Tails.{sound-tails}
 use Rattle.acceptance.specs.Stages.{recordRefusals, functionRefusals, walkRefusals, passed-none, recordsPass, functionPasses, stages-verdict, Readable, records-readable, T-not-not}
 
 -- the tables that a survey fills: how often each value is defined, where blocks start, the reachable blocks by index, each
@@ -116,6 +118,17 @@ module _ (s : List ℕ) where
   verdict-walk p q =
       behind-records p ∙ chosen (isAccepted (firstOf (functionRefusals s))) (firstOf (walkRefusals s)) (firstOf (functionRefusals s)) q
 
+  -- a file that refusals 6 and 7 let pass defines each value once, and is sound
+  function-is : T (isAccepted (firstOf (functionRefusals s))) → T (definedOnce (functionIn s)) × T (sound (functionIn s))
+  unfolding functionRefusals
+  function-is p =
+      let once = definedOnce (functionIn s) in
+      let isSound = sound (functionIn s) in
+      let none = passed-none (functionRefusals s) tt p in (
+        T-not-not once (and-left (not (not once)) (not (not isSound) && true) none),
+        T-not-not isSound (and-left (not (not isSound)) true (and-right (not (not once)) (not (not isSound) && true) none)),
+      )
+
   -- An accepted file passed every stage,
   pub accepted-passes : T (isAccepted (firstOf (fileRefusals s))) → T (functionPasses s) × T (isAccepted (firstOf (walkRefusals s)))
   accepted-passes a =
@@ -131,16 +144,14 @@ module _ (s : List ℕ) where
 
   -- so no refusal applies to it.
   pub accepted-is : T (isAccepted (firstOf (fileRefusals s))) → Accepted s
-  unfolding functionRefusals walkRefusals
+  unfolding walkRefusals
   accepted-is a =
       let passes = accepted-passes a in
-      let once = definedOnce (functionIn s) in
-      let isSound = sound (functionIn s) in
-      let function-none = passed-none (functionRefusals s) tt (and-right (recordsPass s) (isAccepted (firstOf (functionRefusals s))) (passes .0)) in
+      let function = function-is (and-right (recordsPass s) (isAccepted (firstOf (functionRefusals s))) (passes .0)) in
       record {
         readable = records-readable s (and-left (recordsPass s) (isAccepted (firstOf (functionRefusals s))) (passes .0));
-        once = T-not-not once (and-left (not (not once)) (not (not isSound) && true) function-none);
-        isSound = T-not-not isSound (and-left (not (not isSound)) true (and-right (not (not once)) (not (not isSound) && true) function-none));
+        once = function .0;
+        isSound = function .1;
         unmarked = and-left (not (markedContext (functionIn s))) true (passed-none (walkRefusals s) tt (passes .1));
       }
 
@@ -168,11 +179,16 @@ module _ {s : List ℕ} (r : Readable s) where
             (ap length isTable ∙ length-padded n (blockTable s) (omega (arith, length-blockTable s, blocks-few s (r .few))));
       }
 
+  -- that its blocks end with their edges,
+  pub function-tails : T (isAccepted (firstOf (functionRefusals s))) → TailsLast s
+  function-tails passed = sound-tails s (r .inOrder) (function-is s passed .1)
+
   -- and its walk.
   pub numbered-walked :
       {places order : List ℕ} {count n m : ℕ} → largestBlocks < n → places ≡ padded n (blockTable s) → largestBlocks ≤ m
-      → order ≡ padded m (reachable (functionIn s)) → count ≡ length (reachable (functionIn s)) → Walked s places order count
-  numbered-walked {places} {order} {count} {n} {m} long isTable listed isOrder counted =
+      → order ≡ padded m (reachable (functionIn s)) → count ≡ length (reachable (functionIn s))
+      → T (isAccepted (firstOf (functionRefusals s))) → Walked s places order count
+  numbered-walked {places} {order} {count} {n} {m} long isTable listed isOrder counted passed =
       let f = functionIn s in
       let order-long : length order ≡ m =
       ap length isOrder
@@ -187,6 +203,7 @@ module _ {s : List ℕ} (r : Readable s) where
         given = table-given long isTable;
         counted = counted;
         listed = padded-own order (reachable f) m isOrder order-long;
+        tails = function-tails passed;
       }
 
 -- So are those of an accepted file.
@@ -203,6 +220,7 @@ surveyed-walked {s} {lent} {back} b g a =
     (b .order .0)
     (g .order ∙ chosen (functionPasses s) (padded (length (lent .order)) (reachable f)) (lent .order) passes)
     (g .counted ∙ chosen (functionPasses s) (length (reachable f)) 0 passes)
+    (and-right (recordsPass s) (isAccepted (firstOf (functionRefusals s))) passes)
 
 -- the file by its tables, with the indices of its blocks
 pub record Indexed (s places order index : List ℕ) (blocks : BlockCounts) : Type 0 where

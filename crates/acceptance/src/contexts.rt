@@ -10,9 +10,11 @@ ghost use Rattle.rules.specs.File.{named, ordered, functionIn};
 ghost use Rattle.rules.specs.Graph.{isMarked};
 ghost use Rattle.rules.specs.Refusals.{markedContext};
 ghost use Rattle.graph.specs.Between.{between};
+ghost use Rattle.graph.specs.Tails.{TailsLast, TailLast};
 ghost use Rattle.graph.specs.Links.{Walked};
 ghost use Rattle.graph.specs.Tables.{Given};
 ghost use Rattle.acceptance.specs.Marked.{blockMarked};
+use graph::edges::tail_from;
 use records::in_order::kind_at;
 use records::in_order::words_at;
 use records::values::is_marked;
@@ -29,12 +31,12 @@ fn is_marked_context(s: &[u8], i: usize) -> bool
     false
 }
 
-// Whether a marked context stands from a place on and before place end.
+// Whether a marked context stands from a place on and before the block's end, where contexts stand in the block's tail.
 fn marked_between(s: &[u8], start: usize, end: usize) -> bool
-    requires { ⌜ (ordered 0 (records (now s)) ≡ true) × (start ≤ end) × (end ≤ recordCount (now s)) ⌝ }
+    requires { ⌜ (ordered 0 (records (now s)) ≡ true) × (start ≤ end) × (end ≤ recordCount (now s)) × TailLast (now s) start end ⌝ }
     ensures { λ r. ⌜ r ≡ any (isMarked (functionIn (now (s .entry)))) (named 9 (between (now (s .entry)) start end)) ⌝ }
 {
-    let mut i = start;
+    let mut i = tail_from(s, start, end);
     while i < end {
         if is_marked_context(s, i) {
             return true;
@@ -46,7 +48,7 @@ fn marked_between(s: &[u8], start: usize, end: usize) -> bool
 
 // Whether a marked context stands in block b.
 fn marked_in_block(s: &[u8], places: &[usize], b: usize) -> bool
-    requires { ⌜ Given (now s) (now places) × (b < length (functionIn (now s) .blocks)) ⌝ }
+    requires { ⌜ Given (now s) (now places) × (b < length (functionIn (now s) .blocks)) × TailsLast (now s) ⌝ }
     ensures { λ r. ⌜ r ≡ blockMarked (functionIn (now (s .entry))) b ⌝ }
 {
     marked_between(s, places[b] + 1, places[b + 1])

@@ -27,7 +27,9 @@ shared-slice-read-b : tie.Need-shared-slice-read-b Inv-loop μ-loop
 shared-slice-read-b c = index-long (c .before .before .before .before .before .before .pre) (c .before .before .loop .i) (c .before .loop-test .taken)
 
 marked-in-block-requires : tie.Need-marked-in-block-requires Inv-loop μ-loop
-marked-in-block-requires c κs = (c .before .before .before .before .before .before .pre .given, omega (arith, block-listed (c .before .before .before .before .before .before .pre) (c .before .before .loop .i) (c .before .loop-test .taken), walked-few (c .before .before .before .before .before .before .pre)))
+marked-in-block-requires c κs =
+    let walked = c .before .before .before .before .before .before .pre in
+    (walked .given, omega (arith, block-listed walked (c .before .before .loop .i) (c .before .loop-test .taken), walked-few walked), walked .tails)
 
 returns : tie.Need-returns Inv-loop μ-loop
 returns c =

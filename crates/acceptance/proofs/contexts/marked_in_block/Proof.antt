@@ -1,7 +1,7 @@
 -- `acceptance::contexts::marked_in_block` meets its contract.
 use Rattle.acceptance.proofs.MarkedContexts.{blockMarked-by-table}
 use Rattle.lists.specs.Tests.{is-true}
-use Rattle.graph.specs.ByTable.{places-long, end-le, start-less}
+use Rattle.graph.specs.ByTable.{places-long, end-le, start-less, block-tail}
 use native.Mathlib.Omega.{arith}
 use mathlib.Core.Path.{sym, _∙_}
 use Rattle.acceptance.proofs.contexts.marked_in_block.Statement.{statement}
@@ -26,7 +26,14 @@ shared-slice-read-marked-between-2 : tie.Need-shared-slice-read-marked-between-2
 shared-slice-read-marked-between-2 c = omega (arith, c .before .before .before .before .pre .1, places-long (c .before .before .before .before .args .s .now) (c .before .before .before .before .args .places .now) (c .before .before .before .before .pre .0))
 
 marked-between-requires : tie.Need-marked-between-requires
-marked-between-requires c κs = (is-true _ (c .before .before .before .before .pre .0 .inOrder), start-less (c .before .before .before .before .args .s .now) (c .before .before .before .before .args .places .now) (c .before .before .before .before .pre .0) (c .before .before .before .before .args .b) (c .before .before .before .before .pre .1), end-le (c .before .before .before .before .args .s .now) (c .before .before .before .before .args .places .now) (c .before .before .before .before .pre .0) (c .before .before .before .before .args .b) (c .before .before .before .before .pre .1))
+marked-between-requires c κs =
+    let start = c .before .before .before .before in
+    let s = start .args .s .now in
+    let places = start .args .places .now in
+    let g = start .pre .0 in
+    let b = start .args .b in
+    let l = start .pre .1 in
+    (is-true _ (g .inOrder), start-less s places g b l, end-le s places g b l, block-tail s places g b l (start .pre .2))
 
 returns : tie.Need-returns
 returns c = c .marked-between .ensures ∙ sym (blockMarked-by-table (c .before .before .before .before .before .args .s .now) (c .before .before .before .before .before .args .places .now) (c .before .before .before .before .before .pre .0) (c .before .before .before .before .before .args .b) (c .before .before .before .before .before .pre .1))

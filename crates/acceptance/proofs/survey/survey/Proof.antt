@@ -4,7 +4,7 @@ use Rattle.lists.specs.Tests.{is-true}
 use Rattle.graph.specs.Blocks.{length-blockPlaces}
 use Rattle.graph.specs.Room.{table-room, walk-lent}
 use Rattle.acceptance.specs.Stages.{records-readable, said-no, said-yes}
-use Rattle.acceptance.specs.Survey.{readable-countable, table-given, numbered-walked}
+use Rattle.acceptance.specs.Survey.{readable-countable, table-given, function-tails, numbered-walked}
 use Rattle.acceptance.proofs.Surveying.{ends-at-records, ends-at-function, ends-with-walk}
 use borrow.Author.Needs.{needs}
 use Rattle.acceptance.proofs.survey.survey.Statement.{statement}
@@ -57,12 +57,14 @@ post-order-requires c κs =
     let s = start .args .s .now in
     let r = records-readable s (said-yes (c .before .before .before .before .before .before .before .before .before .before .before .before .before .before .before .before .before .is-accepted .ensures) (c .before .before .before .before .before .before .before .before .before .before .before .before .before .before .before .before .before .before .records-verdict .ensures) (c .before .before .before .before .before .before .before .before .before .before .before .before .before .before .before .before .if1 .left)) in
     walk-lent s (r .few) (r .inOrder) (r .inFile) _ _ _ _ _ (table-given r (start .pre .places .0) (c .before .before .before .before .before .before .before .before .before .before .before .before .before .before .places-of .ensures .1) .table) (start .pre .order) (start .pre .index) (start .pre .stack) (start .pre .next)
+    (function-tails r (said-yes (c .before .before .before .before .before .before .is-accepted2 .ensures) (c .before .before .before .before .before .before .before .before .before .function-verdict .ensures .0) (c .before .before .before .before .before .if2 .left)))
 
 walk-verdict-requires : tie.Need-walk-verdict-requires
 walk-verdict-requires c κs =
     let start = c .before .before .before .before .before .before .before .before .before .before .before .before .before .before .before .before .before .before .before .before .before .before .before .before .before .before .before .before .before .before .before .before .before .before .before .before .before in
     let walk = c .before .before .before .before .before .before .before .before .before .before .post-order in
     numbered-walked (records-readable (start .args .s .now) (said-yes (c .before .before .before .before .before .before .before .before .before .before .before .before .before .before .before .before .before .before .before .before .before .before .before .before .before .before .before .before .is-accepted .ensures) (c .before .before .before .before .before .before .before .before .before .before .before .before .before .before .before .before .before .before .before .before .before .before .before .before .before .before .before .before .before .records-verdict .ensures) (c .before .before .before .before .before .before .before .before .before .before .before .before .before .before .before .before .before .before .before .before .before .before .before .before .before .before .before .if1 .left))) (start .pre .places .0) (c .before .before .before .before .before .before .before .before .before .before .before .before .before .before .before .before .before .before .before .before .before .before .before .before .before .places-of .ensures .1) (start .pre .order .0) (walk .ensures .order) (walk .ensures .count)
+    (said-yes (c .before .before .before .before .before .before .before .before .before .before .before .before .before .before .before .before .before .is-accepted2 .ensures) (c .before .before .before .before .before .before .before .before .before .before .before .before .before .before .before .before .before .before .before .before .function-verdict .ensures .0) (c .before .before .before .before .before .before .before .before .before .before .before .before .before .before .before .before .if2 .left))
 
 same-length-3 : tie.Need-same-length-3
 same-length-3 c = search needs
