@@ -1,7 +1,6 @@
 pub mod Counting
+pub mod Forming
 pub mod InFile
 pub mod Noting
-pub mod Numbering
-pub mod Ordering
 pub mod Table
 pub mod Upward

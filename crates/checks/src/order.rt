@@ -1,19 +1,18 @@
 // Refusal 4: the order of records, words outside the table, and blocks numbered by their position.
 ghost use mathlib.Core.Path.{_≡_};
 ghost use Prim.Native.Nat.{_<_};
-ghost use mathlib.Core.Bool.{true, not, _&&_, _||_};
+ghost use mathlib.Core.Bool.{not, _&&_, _||_};
 ghost use lib.Dec.{eqb};
 ghost use lib.ListN.{getD};
-ghost use Rattle.rules.specs.Records.{records};
+ghost use Rattle.rules.specs.Records.{encode, kind, records};
 ghost use Rattle.rules.specs.File.{follows, ordered, functionIn};
 ghost use Rattle.rules.specs.Refusals.{numberedFrom};
 ghost use Rattle.checks.specs.Order.{followerBits};
 use crate::counts::one_if_same;
-use records::in_order::words_at;
 use records::kind_of;
 use records::record_at;
 use rules::RECORD_BYTES;
-use rules::Words;
+use rules::Record;
 
 // The kinds that may stand behind a kind, kind k at bit k; row 0 is the start of the file, and behind an output's kinds
 // nothing may stand.
@@ -43,59 +42,39 @@ fn may_follow(p: u32, k: u32) -> bool
     (followers_of(p) >> k) % 2 == 1
 }
 
-// Whether the records of a file are in order.
-pub fn in_order(s: &[u8]) -> bool
-    ensures { λ r. ⌜ r ≡ ordered 0 (records (now (s .entry))) ⌝ }
+// Whether a record that opens a block has this number; others have any.
+fn numbered_as(r: Record, number: usize) -> bool
+    ensures { λ b. ⌜ b ≡ (not (eqb 2 (kind r)) || eqb (encode r .third) number) ⌝ }
 {
-    let n = s.len() / RECORD_BYTES;
-    let mut p: u32 = 0;
-    let mut i: usize = 0;
-    while i < n {
-        let k = kind_of(record_at(s, i));
-        if !may_follow(p, k) {
-            return false;
-        }
-        p = k;
-        i += 1;
+    match r {
+        Record::Block {
+            cold: _,
+            number: own,
+        } => own as usize == number,
+        _ => true,
     }
-    4 <= p
-}
-
-// Whether four words that open a block have this number; others have any.
-fn numbered_as(w: Words, number: usize) -> bool
-    ensures { λ r. ⌜ r ≡ (not (eqb 2 (w .kind)) || eqb (w .third) number) ⌝ }
-{
-    if w.kind != 2 {
-        return true;
-    }
-    w.third as usize == number
-}
-
-// Whether each block's number is its position, in a file in order.
-pub fn blocks_numbered(s: &[u8]) -> bool
-    requires { ⌜ ordered 0 (records (now s)) ≡ true ⌝ }
-    ensures { λ r. ⌜ r ≡ numberedFrom 0 (functionIn (now (s .entry)) .blocks) ⌝ }
-{
-    let n = s.len() / RECORD_BYTES;
-    let mut number: usize = 0;
-    let mut i: usize = 0;
-    while i < n {
-        let w = words_at(s, i);
-        if !numbered_as(w, number) {
-            return false;
-        }
-        number += one_if_same(2, w.kind);
-        i += 1;
-    }
-    true
 }
 
 // Whether a file is malformed: out of order, a word outside the table, no block, or a block not numbered by its position.
 pub fn malformed(s: &[u8]) -> bool
     ensures { λ r. ⌜ r ≡ not (ordered 0 (records (now (s .entry))) && numberedFrom 0 (functionIn (now (s .entry)) .blocks)) ⌝ }
 {
-    if in_order(s) {
-        return !blocks_numbered(s);
+    let n = s.len() / RECORD_BYTES;
+    let mut p: u32 = 0;
+    let mut number: usize = 0;
+    let mut i: usize = 0;
+    while i < n {
+        let r = record_at(s, i);
+        let k = kind_of(r);
+        if !may_follow(p, k) {
+            return true;
+        }
+        if !numbered_as(r, number) {
+            return true;
+        }
+        number += one_if_same(2, k);
+        p = k;
+        i += 1;
     }
-    true
+    p < 4
 }

@@ -1,30 +1,105 @@
 -- `checks::order::malformed` meets its contract.
-use Rattle.rules.specs.Refusals.{numberedFrom}
-use Rattle.rules.specs.File.{ordered, functionIn}
-use Rattle.rules.specs.Records.{records}
-use mathlib.Core.Bool.{true, false, not, _&&_}
-use mathlib.Core.Path.{_≡_, sym, ap, _∙_}
+use native.Mathlib.Omega.{arith}
+use Rattle.rules.specs.File.{follows}
 use borrow.Author.Needs.{needs}
+use Prim.Native.Nat.{_≤_, _<_, _-_, _+_}
+use mathlib.Core.Path.{_≡_, refl, sym, ap, ap₂, _∙_}
+use mathlib.Core.Bool.{not}
+use lib.Dec.{eqb}
+use borrow.Author.Tests.{not-true, not-false}
+use Rattle.rules.specs.Records.{recordCount, bit}
+use Rattle.lists.specs.Counts.{bit-at-most}
+use Rattle.checks.proofs.Forming.{formed, formed-all, formed-done, formed-order, formed-number, formed-goes, ends-early}
 use Rattle.checks.proofs.order.malformed.Statement.{statement}
 use Rattle.checks.proofs.order.malformed.Tie as tie
 
-in-order-requires : tie.Need-in-order-requires
-in-order-requires c κs = search needs
+abbrev Inv-loop : tie.InvT-loop
+Inv-loop s n p₀ number₀ i₀ p number i = (i ≤ recordCount s) × (p < 16) × (number ≤ i) × (formed s p number i ≡ formed s 0 0 0)
 
-blocks-numbered-requires : tie.Need-blocks-numbered-requires
-blocks-numbered-requires c κs = sym (c .before .in-order .ensures) ∙ c .if1 .taken
+abbrev μ-loop : tie.MeasureT-loop
+μ-loop s n p₀ number₀ i₀ p number i = recordCount s - i
 
-returns : tie.Need-returns
+loop-holds : tie.Need-loop-holds Inv-loop μ-loop
+loop-holds c = (search needs, search needs, search needs, refl)
+
+record-at-requires : tie.Need-record-at-requires Inv-loop μ-loop
+record-at-requires c κs = search needs
+
+kind-of-requires : tie.Need-kind-of-requires Inv-loop μ-loop
+kind-of-requires c κs = search needs
+
+may-follow-requires : tie.Need-may-follow-requires Inv-loop μ-loop
+may-follow-requires c κs = search needs
+
+returns : tie.Need-returns Inv-loop μ-loop
 returns c =
-    let s = c .before .before .before .before .args .s .now in
-    let o : ordered 0 (records s) ≡ true = sym (c .before .before .in-order .ensures) ∙ c .before .if1 .taken in
-    ap not (c .blocks-numbered .ensures ∙ sym (ap (λ b. b && numberedFrom 0 (functionIn s .blocks)) o))
+    let s = c .before .before .before .before .before .before .before .args .s .now in
+    let at = c .before .before .before .before .before .loop in
+    let r = c .before .before .before .record-at .result in
+    let no = ap (follows (at .p)) (sym (c .before .before .kind-of .ensures .0)) ∙ sym (c .before .may-follow .ensures) ∙ not-true (c .before .may-follow .result) (c .if1 .taken) in
+    sym (ap not (sym (formed-all s) ∙ sym (at .inv .3) ∙ formed-order s (at .p) (at .number) (at .i) r (c .before .before .before .record-at .ensures) (search needs) no))
 
-returns-2 : tie.Need-returns-2
+numbered-as-requires : tie.Need-numbered-as-requires Inv-loop μ-loop
+numbered-as-requires c κs = search needs
+
+returns-2 : tie.Need-returns-2 Inv-loop μ-loop
 returns-2 c =
+    let s = c .before .before .before .before .before .before .before .before .before .args .s .now in
+    let at = c .before .before .before .before .before .before .before .loop in
+    let r = c .before .before .before .before .before .record-at .result in
+    let no = sym (c .before .numbered-as .ensures) ∙ not-true (c .before .numbered-as .result) (c .if2 .taken) in
+    sym (ap not (sym (formed-all s) ∙ sym (at .inv .3) ∙ formed-number s (at .p) (at .number) (at .i) r (c .before .before .before .before .before .record-at .ensures) (search needs) no))
+
+one-if-same-requires : tie.Need-one-if-same-requires Inv-loop μ-loop
+one-if-same-requires c κs = search needs
+
+add-number : tie.Need-add-number Inv-loop μ-loop
+add-number c = omega (arith, c .one-if-same .ensures, bit-at-most (eqb 2 (c .before .before .before .before .before .kind-of .result)))
+
+add-i : tie.Need-add-i Inv-loop μ-loop
+add-i c = search needs
+
+loop-less : tie.Need-loop-less Inv-loop μ-loop
+loop-less c = search needs
+
+loop-again : tie.Need-loop-again Inv-loop μ-loop
+loop-again c =
+    let s = c .before .before .before .before .before .before .before .before .before .before .args .s .now in
+    let at = c .before .before .before .before .before .before .before .before .loop in
+    let r = c .before .before .before .before .before .before .record-at .result in
+    let is = c .before .before .before .before .before .kind-of .ensures .0 in
+    let follows-on = ap (follows (at .p)) (sym is) ∙ sym (c .before .before .before .before .may-follow .ensures) ∙ not-false (c .before .before .before .before .may-follow .result) (c .before .before .before .if1 .left) in
+    let numbered = sym (c .before .before .numbered-as .ensures) ∙ not-false (c .before .before .numbered-as .result) (c .before .if2 .left) in
+    let goes = formed-goes s (at .p) (at .number) (at .i) r (c .before .before .before .before .before .before .record-at .ensures) (search needs) follows-on numbered in
+    let more = c .one-if-same .ensures ∙ ap (λ k. bit (eqb 2 k)) is in (
+      search needs,
+      search needs,
+      omega (arith, c .one-if-same .ensures, bit-at-most (eqb 2 (c .before .before .before .before .before .kind-of .result))),
+      ap₂ (λ k m. formed s k (at .number + m) (at .i + 1)) is more ∙ sym goes ∙ at .inv .3,
+    )
+
+returns-3 : tie.Need-returns-3 Inv-loop μ-loop
+returns-3 c =
     let s = c .before .before .before .args .s .now in
-    let o : ordered 0 (records s) ≡ false = sym (c .before .in-order .ensures) ∙ c .if1 .left in
-    sym (ap (λ b. not (b && numberedFrom 0 (functionIn s .blocks))) o)
+    let at = c .before .loop in
+    ends-early (at .p) ∙ sym (ap not (sym (formed-all s) ∙ sym (at .inv .3) ∙ formed-done s (at .p) (at .number) (at .i) (omega arith)))
 
 pub malformed-spec : {M : Type 1} → statement M
-malformed-spec = tie.close (tie.spec in-order-requires blocks-numbered-requires returns returns-2)
+malformed-spec =
+    tie.close
+    (tie.spec
+    Inv-loop
+    μ-loop
+    loop-holds
+    record-at-requires
+    kind-of-requires
+    may-follow-requires
+    returns
+    numbered-as-requires
+    returns-2
+    one-if-same-requires
+    add-number
+    add-i
+    loop-less
+    loop-again
+    returns-3)
