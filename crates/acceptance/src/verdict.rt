@@ -6,6 +6,8 @@ ghost use Rattle.rules.specs.Services.{isAccepted};
 ghost use Rattle.checks.specs.Definitions.{notedAll, Countable};
 ghost use Rattle.graph.specs.Tables.{Given};
 ghost use Rattle.acceptance.specs.Stages.{thenRefused, recordRefusals, functionRefusals};
+use checks::counts::count_kinds;
+use checks::counts::too_long;
 use checks::counts::too_many;
 use checks::definitions::not_defined_once;
 use checks::numbers::not_in_file;
@@ -61,13 +63,17 @@ pub fn records_verdict(s: &[u8]) -> Verdict
     if s.len() % RECORD_BYTES != 0 {
         return Verdict::Length;
     }
-    if too_many(s) {
+    if too_long(s) {
+        return Verdict::TooMany;
+    }
+    let of = count_kinds(s);
+    if too_many(of) {
         return Verdict::TooMany;
     }
     if malformed(s) {
         return Verdict::Malformed;
     }
-    if not_in_file(s) {
+    if not_in_file(s, of) {
         return Verdict::NotInFile;
     }
     Verdict::Accepted

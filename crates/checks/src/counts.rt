@@ -1,9 +1,9 @@
 // Refusal 3: the largest counts, of all records and of values, blocks, instructions and edges.
 ghost use mathlib.Core.Path.{_≡_};
-ghost use lib.Dec.{eqb};
-ghost use Rattle.rules.specs.Lists.{count};
-ghost use Rattle.rules.specs.Records.{bit, firstWords};
-ghost use Rattle.rules.specs.Refusals.{tooMany};
+ghost use lib.Dec.{eqb, ltb};
+ghost use Rattle.rules.specs.Limits.{largestRecords};
+ghost use Rattle.rules.specs.Records.{bit, recordCount};
+ghost use Rattle.checks.specs.Counts.{CountsOf, aboveLargest};
 use records::word_at;
 use rules::LARGEST_BLOCKS;
 use rules::LARGEST_EDGES;
@@ -32,7 +32,7 @@ pub struct KindCounts {
 
 // All four in one pass.
 pub fn count_kinds(s: &[u8]) -> KindCounts
-    ensures { λ r. ⌜ (r .values ≡ count (eqb 1) (firstWords (now (s .entry)))) × (r .blocks ≡ count (eqb 2) (firstWords (now (s .entry)))) × (r .instructions ≡ count (eqb 4) (firstWords (now (s .entry)))) × (r .edges ≡ count (eqb 7) (firstWords (now (s .entry)))) ⌝ }
+    ensures { λ r. ⌜ CountsOf (now (s .entry)) r ⌝ }
 {
     let n = s.len() / RECORD_BYTES;
     let mut values: usize = 0;
@@ -56,14 +56,17 @@ pub fn count_kinds(s: &[u8]) -> KindCounts
     }
 }
 
-// Whether a file has more records than the largest count, of all or of a kind.
-pub fn too_many(s: &[u8]) -> bool
-    ensures { λ r. ⌜ r ≡ tooMany (now (s .entry)) ⌝ }
+// Whether a file has more records than the largest count.
+pub fn too_long(s: &[u8]) -> bool
+    ensures { λ r. ⌜ r ≡ ltb largestRecords (recordCount (now (s .entry))) ⌝ }
 {
-    if LARGEST_RECORDS < s.len() / RECORD_BYTES {
-        return true;
-    }
-    let of = count_kinds(s);
+    LARGEST_RECORDS < s.len() / RECORD_BYTES
+}
+
+// Whether it has more of a kind than the largest count.
+pub fn too_many(of: KindCounts) -> bool
+    ensures { λ r. ⌜ r ≡ aboveLargest of ⌝ }
+{
     if LARGEST_VALUES < of.values {
         return true;
     }

@@ -1,15 +1,15 @@
 // Refusal 6: each value is defined exactly once, by parameter or result. Definitions are counted in a lent table.
 ghost use mathlib.Core.Path.{_≡_};
-ghost use mathlib.Core.Bool.{not};
+ghost use mathlib.Core.Bool.{true, not};
 ghost use Prim.Native.Nat.{_≤_, _<_};
 ghost use lib.ListN.{length, getD};
 ghost use lib.Dec.{T, eqb};
 ghost use Rattle.rules.specs.Lists.{all, upFrom};
 ghost use Rattle.rules.specs.Records.{records};
-ghost use Rattle.rules.specs.File.{functionIn};
+ghost use Rattle.rules.specs.File.{ofKind, ordered, functionIn};
 ghost use Rattle.rules.specs.Refusals.{definedOnce};
 ghost use Rattle.checks.specs.Definitions.{defines, noted, notedAll, Countable};
-use crate::numbers::value_count;
+use records::in_order::kind_at;
 use records::in_order::words_at;
 use rules::RECORD_BYTES;
 use rules::Words;
@@ -46,6 +46,22 @@ pub fn count_definitions(s: &[u8], counts: &mut [u32])
         note_definition(words_at(s, i), counts);
         i += 1;
     }
+}
+
+// How many values a file in order has: they stand first.
+fn value_count(s: &[u8]) -> usize
+    requires { ⌜ ordered 0 (records (now s)) ≡ true ⌝ }
+    ensures { λ r. ⌜ r ≡ length (ofKind 1 (records (now (s .entry)))) ⌝ }
+{
+    let n = s.len() / RECORD_BYTES;
+    let mut i: usize = 0;
+    while i < n {
+        if kind_at(s, i) != 1 {
+            return i;
+        }
+        i += 1;
+    }
+    i
 }
 
 // Whether each of the first values of a table of counts is 1.

@@ -2,48 +2,16 @@
 ghost use mathlib.Core.Path.{_≡_};
 ghost use mathlib.Core.Bool.{true, not};
 ghost use mathlib.Core.List.{[], _∷_};
-ghost use lib.ListN.{length};
 ghost use Rattle.rules.specs.Lists.{has};
 ghost use Rattle.rules.specs.Records.{records};
-ghost use Rattle.rules.specs.File.{ofKind, ordered, functionIn};
+ghost use Rattle.rules.specs.File.{ordered, functionIn};
 ghost use Rattle.rules.specs.Refusals.{numbersInFile};
+ghost use Rattle.checks.specs.Counts.{CountsOf};
 ghost use Rattle.checks.specs.Numbers.{numbersFit};
-use crate::counts::one_if_same;
-use records::in_order::kind_at;
+use crate::counts::KindCounts;
 use records::in_order::words_at;
 use rules::RECORD_BYTES;
 use rules::Words;
-
-// How many values a file in order has: they stand first.
-pub fn value_count(s: &[u8]) -> usize
-    requires { ⌜ ordered 0 (records (now s)) ≡ true ⌝ }
-    ensures { λ r. ⌜ r ≡ length (ofKind 1 (records (now (s .entry)))) ⌝ }
-{
-    let n = s.len() / RECORD_BYTES;
-    let mut i: usize = 0;
-    while i < n {
-        if kind_at(s, i) != 1 {
-            return i;
-        }
-        i += 1;
-    }
-    i
-}
-
-// How many records of a file in order are of kind k.
-pub fn kind_count(s: &[u8], k: u32) -> usize
-    requires { ⌜ ordered 0 (records (now s)) ≡ true ⌝ }
-    ensures { λ r. ⌜ r ≡ length (ofKind k (records (now (s .entry)))) ⌝ }
-{
-    let n = s.len() / RECORD_BYTES;
-    let mut found: usize = 0;
-    let mut i: usize = 0;
-    while i < n {
-        found += one_if_same(kind_at(s, i), k);
-        i += 1;
-    }
-    found
-}
 
 // Whether word 2 of a record of kind k is a value: a parameter, a result, an argument or a context.
 fn names_value(k: u32) -> bool
@@ -80,17 +48,15 @@ fn numbers_fit(w: Words, values: usize, blocks: usize) -> bool
     true
 }
 
-// Whether a file in order names a value or a block that it does not have.
-pub fn not_in_file(s: &[u8]) -> bool
-    requires { ⌜ ordered 0 (records (now s)) ≡ true ⌝ }
+// Whether a file in order, of so many values and blocks, names one that it does not have.
+pub fn not_in_file(s: &[u8], of: KindCounts) -> bool
+    requires { ⌜ (ordered 0 (records (now s)) ≡ true) × CountsOf (now s) of ⌝ }
     ensures { λ r. ⌜ r ≡ not (numbersInFile (functionIn (now (s .entry)))) ⌝ }
 {
     let n = s.len() / RECORD_BYTES;
-    let values = value_count(s);
-    let blocks = kind_count(s, 2);
     let mut i: usize = 0;
     while i < n {
-        if !numbers_fit(words_at(s, i), values, blocks) {
+        if !numbers_fit(words_at(s, i), of.values, of.blocks) {
             return true;
         }
         i += 1;

@@ -1,4 +1,4 @@
--- `checks::numbers::value_count` meets its contract.
+-- `checks::definitions::value_count` meets its contract.
 use borrow.Author.Needs.{needs}
 use Prim.Native.Nat.{_≤_, _+_, _-_}
 use mathlib.Core.Path.{_≡_, sym, ap, _∙_}
@@ -7,8 +7,8 @@ use lib.ListN.{length}
 use Rattle.rules.specs.File.{ofKind}
 use Rattle.rules.specs.Records.{recordCount, records}
 use Rattle.checks.proofs.Counting.{valuesFrom, valuesFrom-all, valuesFrom-done, valuesFrom-other, valuesFrom-more}
-use Rattle.checks.proofs.numbers.value_count.Statement.{statement}
-use Rattle.checks.proofs.numbers.value_count.Tie as tie
+use Rattle.checks.proofs.definitions.value_count.Statement.{statement}
+use Rattle.checks.proofs.definitions.value_count.Tie as tie
 
 abbrev Inv-loop : tie.InvT-loop
 Inv-loop s n i₀ i = (i ≤ recordCount s) × (i + length (valuesFrom s i) ≡ length (ofKind 1 (records s)))
