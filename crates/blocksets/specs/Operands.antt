@@ -1,10 +1,12 @@
 -- What a record does with a value, and what it does so to a set of live values.
+use Prim.Native.Nat.{ℕ}
 use mathlib.Core.Path.{_≡_, refl, ap}
-use mathlib.Core.Bool.{Bool, true}
+use mathlib.Core.Bool.{Bool, true, not, cond}
 use mathlib.Core.List.{List, [], _∷_, _++_}
-use lib.Dec.{ltb}
+use lib.Dec.{T, eqb, ltb}
 use Rattle.rules.specs.Lists.{keep, NumberSet, adding, removing}
 use Rattle.rules.specs.Tree.{Function}
+use Rattle.rules.specs.Records.{encode, kind}
 use Rattle.rules.specs.Graph.{isMarked}
 use Rattle.rules.specs.declared.EdgeArgument.{EdgeArgument}
 use Rattle.rules.specs.declared.EdgeArgument.the-variants as passes
@@ -38,6 +40,33 @@ operandOf (record′.Store _ _) = operand.Neither
 operandOf (record′.Load _ _ _) = operand.Neither
 operandOf record′.Jump = operand.Neither
 operandOf record′.Outside = operand.Neither
+
+-- what the words of a record other than an edge argument do with a value, by their kind and their second word
+abbrev pub operandBy : ℕ → ℕ → Operand
+operandBy k v =
+    cond (eqb k 6) (operand.Used v)
+    (cond (eqb k 5) (operand.Defined v)
+    (cond (eqb k 3) (operand.Defined v) operand.Neither))
+
+pub operand-by-words : (r : Record) → T (not (eqb (kind r) 8)) → operandBy (kind r) (encode r .second) ≡ operandOf r
+operand-by-words (record′.Value _ _) h = refl
+operand-by-words (record′.Block _ _) h = refl
+operand-by-words (record′.Parameter _) h = refl
+operand-by-words (record′.Instruction _ _ _) h = refl
+operand-by-words (record′.Result _) h = refl
+operand-by-words (record′.Argument _) h = refl
+operand-by-words (record′.Edge _) h = refl
+operand-by-words (record′.EdgeArgument (passes.Value _)) h = absurd h
+operand-by-words (record′.EdgeArgument (passes.Returned _)) h = absurd h
+operand-by-words (record′.EdgeArgument (passes.Exception _)) h = absurd h
+operand-by-words (record′.Context _) h = refl
+operand-by-words (record′.Slot _) h = refl
+operand-by-words (record′.MapEntry _ _) h = refl
+operand-by-words (record′.SlotAddress _ _) h = refl
+operand-by-words (record′.Store _ _) h = refl
+operand-by-words (record′.Load _ _ _) h = refl
+operand-by-words record′.Jump h = refl
+operand-by-words record′.Outside h = refl
 
 -- a row has a bit for the value that is defined
 abbrev pub inRow : Operand → Bool

@@ -4,8 +4,7 @@ ghost use Rattle.rules.specs.File.{functionIn};
 ghost use Rattle.fixpoint.specs.Rule.{uses as usesOf, kills as killsOf};
 ghost use Rattle.rows.specs.Rows.{rows};
 ghost use Rattle.blocksets.specs.InRows.{SetTables};
-use crate::operands::collect_defined;
-use crate::operands::go_back;
+use crate::operands::collect_sets;
 
 // Each block's row of what it uses before it defines it, and of what it defines; also of blocks that are not reachable.
 pub fn block_sets(s: &[u8], places: &[usize], blocks: usize, uses: &mut [u64], kills: &mut [u64])
@@ -16,8 +15,7 @@ pub fn block_sets(s: &[u8], places: &[usize], blocks: usize, uses: &mut [u64], k
     while b < blocks {
         let start = places[b] + 1;
         let end = places[b + 1];
-        go_back(s, start, end, uses, b);
-        collect_defined(s, start, end, kills, b);
+        collect_sets(s, start, end, uses, kills, b);
         b += 1;
     }
 }

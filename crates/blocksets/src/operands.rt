@@ -1,18 +1,20 @@
 // What a record does with a value, and the walk back over records that liveness is: what is used gets live, what is
 // defined does not stay so.
 ghost use mathlib.Core.Path.{_≡_};
+ghost use mathlib.Core.Bool.{true};
 ghost use mathlib.Core.List.{_∷_, []};
-ghost use Prim.Native.Nat.{_≤_};
+ghost use Prim.Native.Nat.{_<_, _≤_};
 ghost use lib.Dec.{T};
 ghost use Rattle.rules.specs.Lists.{keep, update, adding};
-ghost use Rattle.rules.specs.Records.{recordCount};
-ghost use Rattle.rules.specs.File.{functionIn};
+ghost use Rattle.rules.specs.Records.{kind, recordAt, recordCount, records};
+ghost use Rattle.rules.specs.File.{functionIn, ordered};
 ghost use Rattle.rules.specs.Graph.{isMarked};
 ghost use Rattle.rows.specs.Rows.{rows, HasRow};
 ghost use Rattle.graph.specs.Between.{between};
 ghost use Rattle.blocksets.specs.Operands.{passedOperand, operandOf, liveBefore, withDefined, inRow, back, definedIn};
 ghost use Rattle.blocksets.specs.InRows.{InRows};
 use records::in_order::decoded_at;
+use records::in_order::words_at;
 use records::values::is_marked;
 use rows::insert;
 use rows::remove;
@@ -43,17 +45,39 @@ fn passed_operand(x: EdgeArgument) -> Operand
     }
 }
 
-// What a record does with a value.
-pub fn operand_of(r: Record) -> Operand
+// What the record of an edge argument does with a value.
+fn operand_of(r: Record) -> Operand
+    requires { ⌜ kind r ≡ 8 ⌝ }
     ensures { λ x. ⌜ x ≡ operandOf r ⌝ }
 {
     match r {
-        Record::Parameter(v) => Operand::Defined(v),
-        Record::Result(v) => Operand::Defined(v),
-        Record::Argument(v) => Operand::Used(v),
         Record::EdgeArgument(x) => passed_operand(x),
         _ => Operand::Neither,
     }
+}
+
+// What record i does with a value. The commonest kinds are asked first, and only an edge argument is decoded.
+pub fn operand_at(s: &[u8], i: usize) -> Operand
+    requires { ⌜ (i < recordCount (now s)) × (ordered 0 (records (now s)) ≡ true) ⌝ }
+    ensures { λ x. ⌜ x ≡ operandOf (recordAt (now (s .entry)) i) ⌝ }
+{
+    let w = words_at(s, i);
+    if w.kind == 6 {
+        return Operand::Used(w.second);
+    }
+    if w.kind == 5 {
+        return Operand::Defined(w.second);
+    }
+    if w.kind == 4 {
+        return Operand::Neither;
+    }
+    if w.kind == 3 {
+        return Operand::Defined(w.second);
+    }
+    if w.kind == 8 {
+        return operand_of(decoded_at(s, i));
+    }
+    Operand::Neither
 }
 
 // A row gets a value if it is marked.
@@ -86,30 +110,40 @@ pub fn go_back(s: &[u8], start: usize, end: usize, t: &mut [u64], row: usize)
     let mut i = end;
     while i > start {
         i -= 1;
-        go_before(s, operand_of(decoded_at(s, i)), t, row);
+        go_before(s, operand_at(s, i), t, row);
     }
 }
 
-// A row gets the value that a record defines.
-fn insert_defined(x: Operand, t: &mut [u64], row: usize)
-    requires { ⌜ T (inRow x) × HasRow (now t) row ⌝ }
-    ensures { λ _. ⌜ rows (now (t .exit)) ≡ update row (withDefined x (rows (now (t .entry)) row)) (rows (now (t .entry))) ⌝ }
+// From a block's uses and kills behind a record to those with it.
+fn collect_operand(s: &[u8], x: Operand, uses: &mut [u64], kills: &mut [u64], row: usize)
+    requires { ⌜ InRows (now s) × T (inRow x) × HasRow (now uses) row × HasRow (now kills) row ⌝ }
+    ensures { λ _. ⌜ (rows (now (uses .exit)) ≡ update row (liveBefore (functionIn (now (s .entry))) x (rows (now (uses .entry)) row)) (rows (now (uses .entry)))) × (rows (now (kills .exit)) ≡ update row (withDefined x (rows (now (kills .entry)) row)) (rows (now (kills .entry)))) ⌝ }
 {
     match x {
-        Operand::Defined(v) => insert(t, row, wide(v)),
-        Operand::Used(_) => {}
+        Operand::Defined(v) => {
+            remove(uses, row, wide(v));
+            insert(kills, row, wide(v));
+        }
+        Operand::Used(v) => insert_marked(s, v, uses, row),
         Operand::Neither => {}
     }
 }
 
-// A row gets the values that some records define.
-pub fn collect_defined(s: &[u8], start: usize, end: usize, t: &mut [u64], row: usize)
-    requires { ⌜ InRows (now s) × (start ≤ end) × (end ≤ recordCount (now s)) × HasRow (now t) row ⌝ }
-    ensures { λ _. ⌜ rows (now (t .exit)) ≡ update row (definedIn (between (now (s .entry)) start end) (rows (now (t .entry)) row)) (rows (now (t .entry))) ⌝ }
+// One row gets what some records use before they define it, another what they define: both in one walk, the last record first.
+pub fn collect_sets(
+    s: &[u8],
+    start: usize,
+    end: usize,
+    uses: &mut [u64],
+    kills: &mut [u64],
+    row: usize,
+)
+    requires { ⌜ InRows (now s) × (start ≤ end) × (end ≤ recordCount (now s)) × HasRow (now uses) row × HasRow (now kills) row ⌝ }
+    ensures { λ _. ⌜ (rows (now (uses .exit)) ≡ update row (back (functionIn (now (s .entry))) (between (now (s .entry)) start end) (rows (now (uses .entry)) row)) (rows (now (uses .entry)))) × (rows (now (kills .exit)) ≡ update row (definedIn (between (now (s .entry)) start end) (rows (now (kills .entry)) row)) (rows (now (kills .entry)))) ⌝ }
 {
     let mut i = end;
     while i > start {
         i -= 1;
-        insert_defined(operand_of(decoded_at(s, i)), t, row);
+        collect_operand(s, operand_at(s, i), uses, kills, row);
     }
 }

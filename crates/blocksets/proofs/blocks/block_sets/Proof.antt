@@ -1,20 +1,20 @@
 -- `blocksets::blocks::block_sets` meets its contract.
-use borrow.Author.Needs.{needs}
-use Rattle.blocksets.specs.BlockSets.{below, below-none, below-more, below-all, back-through, defined-kills, uses-outside, kills-outside}
-use Rattle.blocksets.specs.InRows.{tables-in-rows}
-use Rattle.blocksets.specs.Operands.{back, definedIn}
-use Rattle.rows.specs.Rows.{rows, rows-zeros}
-use Rattle.graph.specs.Between.{between}
-use Rattle.graph.specs.ByTable.{places-long, end-le, start-less, body-by-table}
-use Rattle.fixpoint.specs.Rule.{uses as usesOf, kills as killsOf}
-use mathlib.Core.List.{List}
-use Rattle.rules.specs.declared.Record.{Record}
-use Rattle.rules.specs.File.{functionIn}
-use Rattle.rules.specs.Lists.{nothing}
-use native.Mathlib.Omega.{arith}
-use lib.ListN.{length, getD}
-use mathlib.Core.Path.{_≡_, refl, _∙_, ap}
 use Prim.Native.Nat.{_≤_, _<_, _-_, _+_}
+use mathlib.Core.Path.{_≡_, refl, _∙_, ap}
+use lib.ListN.{length, getD}
+use native.Mathlib.Omega.{arith}
+use Rattle.rules.specs.Lists.{nothing}
+use Rattle.rules.specs.File.{functionIn}
+use Rattle.rules.specs.declared.Record.{Record}
+use mathlib.Core.List.{List}
+use Rattle.fixpoint.specs.Rule.{uses as usesOf, kills as killsOf}
+use Rattle.graph.specs.ByTable.{places-long, end-le, start-less, body-by-table}
+use Rattle.graph.specs.Between.{between}
+use Rattle.rows.specs.Rows.{rows, rows-zeros}
+use Rattle.blocksets.specs.Operands.{back, definedIn}
+use Rattle.blocksets.specs.InRows.{tables-in-rows}
+use Rattle.blocksets.specs.BlockSets.{below, below-none, below-more, below-all, back-through, defined-kills, uses-outside, kills-outside}
+use borrow.Author.Needs.{needs}
 use Rattle.blocksets.proofs.blocks.block_sets.Statement.{statement}
 use Rattle.blocksets.proofs.blocks.block_sets.Tie as tie
 
@@ -57,50 +57,40 @@ mul-end c = omega (arith, c .before .loop-test .taken, c .before .before .before
 shared-slice-read-end : tie.Need-shared-slice-read-end Inv-loop μ-loop
 shared-slice-read-end c = omega (arith, c .before .before .loop-test .taken, c .before .before .before .before .before .before .before .before .pre .counted, places-long (c .before .before .before .before .before .before .before .before .args .s .now) (c .before .before .before .before .before .before .before .before .args .places .now) (c .before .before .before .before .before .before .before .before .pre .given))
 
-go-back-requires : tie.Need-go-back-requires Inv-loop μ-loop
-go-back-requires c κs =
-    let s = c .before .before .before .before .before .before .before .before .before .args .s .now in
-    let l : c .before .before .before .before .loop .b < length (functionIn s .blocks) = omega (arith, c .before .before .before .loop-test .taken, c .before .before .before .before .before .before .before .before .before .pre .counted) in
-    let g = c .before .before .before .before .before .before .before .before .before .pre .given in (
-      tables-in-rows (c .before .before .before .before .before .before .before .before .before .pre),
-      start-less s (c .before .before .before .before .before .before .before .before .before .args .places .now) g (c .before .before .before .before .loop .b) l,
-      end-le s (c .before .before .before .before .before .before .before .before .before .args .places .now) g (c .before .before .before .before .loop .b) l,
-      omega (arith, c .before .before .before .before .before .before .before .before .before .pre .roomUses, c .before .before .before .before .loop .inv .1, c .before .before .before .loop-test .taken),
-    )
-
-collect-defined-requires : tie.Need-collect-defined-requires Inv-loop μ-loop
-collect-defined-requires c κs =
-    let s = c .before .before .before .before .before .before .before .before .before .before .before .before .before .args .s .now in
-    let l : c .before .before .before .before .before .before .before .before .loop .b < length (functionIn s .blocks) = omega (arith, c .before .before .before .before .before .before .before .loop-test .taken, c .before .before .before .before .before .before .before .before .before .before .before .before .before .pre .counted) in
-    let g = c .before .before .before .before .before .before .before .before .before .before .before .before .before .pre .given in (
-      tables-in-rows (c .before .before .before .before .before .before .before .before .before .before .before .before .before .pre),
-      start-less s (c .before .before .before .before .before .before .before .before .before .before .before .before .before .args .places .now) g (c .before .before .before .before .before .before .before .before .loop .b) l,
-      end-le s (c .before .before .before .before .before .before .before .before .before .before .before .before .before .args .places .now) g (c .before .before .before .before .before .before .before .before .loop .b) l,
-      omega (arith, c .before .before .before .before .before .before .before .before .before .before .before .before .before .pre .roomKills, c .before .before .before .before .before .before .before .before .loop .inv .2, c .before .before .before .before .before .before .before .loop-test .taken),
+collect-sets-requires : tie.Need-collect-sets-requires Inv-loop μ-loop
+collect-sets-requires c κs =
+    let s = c .before .before .before .before .before .before .before .before .before .before .args .s .now in
+    let l : c .before .before .before .before .before .loop .b < length (functionIn s .blocks) = omega (arith, c .before .before .before .before .loop-test .taken, c .before .before .before .before .before .before .before .before .before .before .pre .counted) in
+    let g = c .before .before .before .before .before .before .before .before .before .before .pre .given in (
+      tables-in-rows (c .before .before .before .before .before .before .before .before .before .before .pre),
+      start-less s (c .before .before .before .before .before .before .before .before .before .before .args .places .now) g (c .before .before .before .before .before .loop .b) l,
+      end-le s (c .before .before .before .before .before .before .before .before .before .before .args .places .now) g (c .before .before .before .before .before .loop .b) l,
+      omega (arith, c .before .before .before .before .before .before .before .before .before .before .pre .roomUses, c .before .before .before .before .before .loop .inv .1, c .before .before .before .before .loop-test .taken),
+      omega (arith, c .before .before .before .before .before .before .before .before .before .before .pre .roomKills, c .before .before .before .before .before .loop .inv .2, c .before .before .before .before .loop-test .taken),
     )
 
 add-b : tie.Need-add-b Inv-loop μ-loop
-add-b c = omega (arith, c .before .before .before .before .before .before .before .before .before .before .loop-test .taken)
+add-b c = omega (arith, c .before .before .before .before .before .before .before .before .before .loop-test .taken)
 
 loop-less : tie.Need-loop-less Inv-loop μ-loop
-loop-less c = omega (arith, c .before .before .before .before .before .before .before .before .before .before .loop-test .taken)
+loop-less c = omega (arith, c .before .before .before .before .before .before .before .before .before .loop-test .taken)
 
 loop-again : tie.Need-loop-again Inv-loop μ-loop
 loop-again c =
-    let s = c .before .before .before .before .before .before .before .before .before .before .before .before .before .before .before .before .args .s .now in
+    let s = c .before .before .before .before .before .before .before .before .before .before .before .before .before .before .before .args .s .now in
     let f = functionIn s in
-    let places = c .before .before .before .before .before .before .before .before .before .before .before .before .before .before .before .before .args .places .now in
-    let b = c .before .before .before .before .before .before .before .before .before .before .before .loop .b in
-    let l : b < length (f .blocks) = omega (arith, c .before .before .before .before .before .before .before .before .before .before .loop-test .taken, c .before .before .before .before .before .before .before .before .before .before .before .before .before .before .before .before .pre .counted) in
-    let g = c .before .before .before .before .before .before .before .before .before .before .before .before .before .before .before .before .pre .given in
+    let places = c .before .before .before .before .before .before .before .before .before .before .before .before .before .before .before .args .places .now in
+    let b = c .before .before .before .before .before .before .before .before .before .before .loop .b in
+    let l : b < length (f .blocks) = omega (arith, c .before .before .before .before .before .before .before .before .before .loop-test .taken, c .before .before .before .before .before .before .before .before .before .before .before .before .before .before .before .pre .counted) in
+    let g = c .before .before .before .before .before .before .before .before .before .before .before .before .before .before .before .pre .given in
     let rs = between s (getD places b 0 + 1) (getD places (b + 1) 0) in
     let body = body-by-table s places g b l in (
       omega arith,
       search needs,
       search needs,
-      below-more (usesOf f) b (back f rs) (rows (c .before .before .before .before .before .before .before .before .before .before .before .loop .uses)) _ (c .before .before .before .before .before .before .before .before .before .before .before .loop .inv .3) (c .before .before .before .before .before .before .go-back .ensures)
+      below-more (usesOf f) b (back f rs) (rows (c .before .before .before .before .before .before .before .before .before .before .loop .uses)) _ (c .before .before .before .before .before .before .before .before .before .before .loop .inv .3) (c .before .before .before .before .collect-sets .ensures .0)
           (ap (λ (x : List Record). back f x nothing) body ∙ back-through s (g .inOrder) b l nothing),
-      below-more (killsOf f) b (definedIn rs) (rows (c .before .before .before .before .before .before .before .before .before .before .before .loop .kills)) _ (c .before .before .before .before .before .before .before .before .before .before .before .loop .inv .4) (c .before .before .collect-defined .ensures)
+      below-more (killsOf f) b (definedIn rs) (rows (c .before .before .before .before .before .before .before .before .before .before .loop .kills)) _ (c .before .before .before .before .before .before .before .before .before .before .loop .inv .4) (c .before .before .before .before .collect-sets .ensures .1)
           (ap (λ (x : List Record). definedIn x nothing) body ∙ defined-kills s (g .inOrder) b l),
     )
 
@@ -131,8 +121,7 @@ block-sets-spec =
     add-end
     mul-end
     shared-slice-read-end
-    go-back-requires
-    collect-defined-requires
+    collect-sets-requires
     add-b
     loop-less
     loop-again
