@@ -56,26 +56,27 @@ fn operand_of(r: Record) -> Operand
     }
 }
 
-// What record i does with a value. The commonest kinds are asked first, and only an edge argument is decoded.
+// What record i does with a value; only an edge argument is decoded. The kinds above 6 are set apart by their size, since the
+// machine code of tests for equality alone is again a table of jumps.
 pub fn operand_at(s: &[u8], i: usize) -> Operand
     requires { ⌜ (i < recordCount (now s)) × (ordered 0 (records (now s)) ≡ true) ⌝ }
     ensures { λ x. ⌜ x ≡ operandOf (recordAt (now (s .entry)) i) ⌝ }
 {
     let w = words_at(s, i);
+    if w.kind > 6 {
+        if w.kind == 8 {
+            return operand_of(decoded_at(s, i));
+        }
+        return Operand::Neither;
+    }
     if w.kind == 6 {
         return Operand::Used(w.second);
     }
     if w.kind == 5 {
         return Operand::Defined(w.second);
     }
-    if w.kind == 4 {
-        return Operand::Neither;
-    }
     if w.kind == 3 {
         return Operand::Defined(w.second);
-    }
-    if w.kind == 8 {
-        return operand_of(decoded_at(s, i));
     }
     Operand::Neither
 }
