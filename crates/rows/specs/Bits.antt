@@ -3,10 +3,12 @@ use Prim.Native.Nat.{ℕ, zero, suc, _+_, _-_, _/_, _%_, _^_, _<_, min, max}
 use native.Mathlib.Omega.{arith}
 use native.Mathlib.Nat.{pow-suc, mul-comm, div-div-eq-div-mul}
 use mathlib.Core.Path.{_≡_, refl, sym, ap, _∙_}
-use mathlib.Core.Bool.{Bool, true, false, not, _&&_, _||_}
+use mathlib.Core.Logic.{_≢_}
+use mathlib.Core.Bool.{Bool, true, false, not, _&&_, _||_, and-self, and-true}
 use lib.Bits.{bitAnd, bitOr, and-step, or-step, and-mask}
 use lib.Count.{trailingZeros, under}
 use lib.Dec.{eqb, eqb·zero-suc, eqb·suc-zero, eqb·suc-suc}
+use borrow.Author.Tests.{eqb-true, eqb-false}
 use Rattle.rules.specs.Lists.{NumberSet}
 use Rattle.rules.specs.Records.{bit}
 use Rattle.rules.specs.Services.{bitsFrom}
@@ -139,3 +141,27 @@ unfolding trailingZeros
 trailing-set zero x l = absurd (omega arith)
 trailing-set (suc k) x l =
     lowest-set x (trailingZeros k (x / 2)) (λ e. trailing-set k (x / 2) (let m : suc (trailingZeros k (x / 2)) < suc k = rw e at l in omega arith))
+
+-- WITHOUT ITS LOWEST ONE: what is one less than a number has the same bits above that one, and not it.
+less-one :
+    (k x : ℕ) → bitAt x k ≡ true → ((i : ℕ) → i < k → bitAt x i ≡ false) → (i : ℕ)
+    → bitAt x i && bitAt (x - 1) i ≡ bitAt x i && not (eqb i k)
+unfolding bitAt
+less-one zero x here below zero =
+    let odd : x % 2 ≡ 1 = eqb-true (x % 2) 1 here in
+    let even : (x - 1) % 2 ≡ 0 = omega arith in
+    rw (odd, even) refl
+less-one zero x here below (suc i) =
+    let odd : x % 2 ≡ 1 = eqb-true (x % 2) 1 here in
+    let half : (x - 1) / 2 ≡ x / 2 = omega arith in
+    rw (half, eqb·suc-zero i) (and-self (bitAt (x / 2) i) ∙ sym (and-true (bitAt (x / 2) i)))
+less-one (suc k) x here below zero = rw (below 0 (omega arith)) refl
+less-one (suc k) x here below (suc i) =
+    let even : x % 2 ≢ 1 = eqb-false (x % 2) 1 (below 0 (omega arith)) in
+    let half : (x - 1) / 2 ≡ x / 2 - 1 = omega arith in
+    rw (half, eqb·suc-suc i k) (less-one k (x / 2) here (λ j l. below (suc j) (omega arith)) i)
+
+pub lowest-removed :
+    (k x : ℕ) → bitAt x k ≡ true → ((i : ℕ) → i < k → bitAt x i ≡ false) → (i : ℕ)
+    → bitAt (bitAnd x (x - 1)) i ≡ bitAt x i && not (eqb i k)
+lowest-removed k x here below i = bit-and i x (x - 1) ∙ less-one k x here below i

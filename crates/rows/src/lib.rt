@@ -3,14 +3,16 @@
 ghost use mathlib.Core.Path.{_≡_};
 ghost use mathlib.Core.Bool.{true, false, _&&_, _||_, not};
 ghost use mathlib.Core.List.{_∷_, []};
-ghost use Prim.Native.Nat.{ℕ, _+_, _/_, _%_, _^_, _<_, _≤_, min};
+ghost use Prim.Native.Nat.{ℕ, _+_, _*_, _/_, _%_, _^_, _<_, _≤_, min};
+ghost use lib.Dec.{eqb};
+ghost use Rattle.rules.specs.Limits.{rowWords};
 ghost use Rattle.rules.specs.Lists.{update, union, adding, removing};
 ghost use Rattle.rows.specs.Bits.{bitAt};
 ghost use Rattle.rows.specs.Rows.{rows, rowValues, HasRow, byRule, size, minus};
 use rules::ROW_WORDS;
 
 // The bits of a word, and of a row.
-const WORD_BITS: usize = 64;
+pub const WORD_BITS: usize = 64;
 
 const ROW_VALUES: usize = WORD_BITS * ROW_WORDS;
 
@@ -142,14 +144,30 @@ pub fn count(t: &[u64], row: usize) -> usize
 }
 
 // How many bits of a word stand below its lowest one, 64 for the word that has none.
-fn zeros_below(word: u64) -> usize
+pub fn zeros_below(word: u64) -> usize
     ensures { λ r. ⌜ (r ≤ 64) × ((i : ℕ) → i < r → bitAt word i ≡ false) × (r < 64 → bitAt word r ≡ true) ⌝ }
 {
     u64::trailing_zeros(word) as usize
 }
 
+// A word without its lowest one.
+pub fn without_lowest(word: u64) -> u64
+    requires { ⌜ 0 < word ⌝ }
+    ensures { λ r. ⌜ ((k : ℕ) → bitAt word k ≡ true → ((i : ℕ) → i < k → bitAt word i ≡ false) → (i : ℕ) → bitAt r i ≡ (bitAt word i && not (eqb i k))) ⌝ }
+{
+    word & word - 1
+}
+
+// Word k of a row: its values from 64 * k on.
+pub fn word_of(t: &[u64], row: usize, k: usize) -> u64
+    requires { ⌜ HasRow (now t) row × (k < rowWords) ⌝ }
+    ensures { λ r. ⌜ ((i : ℕ) → i < 64 → bitAt r i ≡ rows (now (t .entry)) row (64 * k + i)) ⌝ }
+{
+    t[ROW_WORDS * row + k]
+}
+
 // The lesser of two numbers.
-fn least(a: usize, b: usize) -> usize
+pub fn least(a: usize, b: usize) -> usize
     ensures { λ r. ⌜ r ≡ min a b ⌝ }
 {
     if a < b {
