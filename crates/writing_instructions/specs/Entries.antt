@@ -1,5 +1,5 @@
 -- Map entries: what is written for the values on a list, ascending.
-use Prim.Native.Nat.{ℕ, _-_, _<_, _≤_}
+use Prim.Native.Nat.{ℕ, _+_, _-_, _<_, _≤_}
 use mathlib.Core.Path.{_≡_, refl, sym, ap, _∙_}
 use mathlib.Core.Bool.{Bool, true, false}
 use mathlib.Core.List.{List, [], _∷_, _++_, map, append-nil}
@@ -9,12 +9,21 @@ use Rattle.rules.specs.Tree.{MapEntry}
 use Rattle.rules.specs.Rewriting.{mapEntry}
 use Rattle.rules.specs.declared.Record.{Record}
 use Rattle.rules.specs.declared.Record.the-variants as record′
+use Rattle.rows.specs.Bits.{bitAt}
 use Rattle.writing.specs.Places.{fromTo, fromTo-split, fromTo-same}
 
+-- the values from base on that a word has bits for, as a set
+abbrev pub inWord : ℕ → ℕ → NumberSet
+inWord word base v = bitAt word (v - base)
+
+-- the entry of a value
+abbrev pub entryOf : (ℕ → ℕ) → (ℕ → ℕ) → ℕ → Record
+entryOf size slot v = record′.MapEntry (slot v) (size v)
+
 module _ (size slot : ℕ → ℕ) (set : NumberSet) where
-  -- the entry of a value, if it is on the list
+  -- if it is on the list
   abbrev pub entryAt : ℕ → List Record
-  entryAt v = elim (set v) [ true ↦ record′.MapEntry (slot v) (size v) ∷ [] | false ↦ [] ]
+  entryAt v = elim (set v) [ true ↦ entryOf size slot v ∷ [] | false ↦ [] ]
 
   -- those of the values below n
   abbrev pub entriesBelow : ℕ → List Record
@@ -30,8 +39,8 @@ module _ (size slot : ℕ → ℕ) (set : NumberSet) where
     where
       go : (b : Bool) → written (keep set vs) ≡ concatMap entryAt vs
           → written (elim b [ true ↦ v ∷ keep set vs | false ↦ keep set vs ])
-          ≡ elim b [ true ↦ record′.MapEntry (slot v) (size v) ∷ [] | false ↦ [] ] ++ concatMap entryAt vs
-      go true later = ap (λ (t : List Record). record′.MapEntry (slot v) (size v) ∷ t) later
+          ≡ elim b [ true ↦ entryOf size slot v ∷ [] | false ↦ [] ] ++ concatMap entryAt vs
+      go true later = ap (λ (t : List Record). entryOf size slot v ∷ t) later
       go false later = later
 
   -- the entries of a list that is a set in order
@@ -42,11 +51,11 @@ module _ (size slot : ℕ → ℕ) (set : NumberSet) where
       entries-among (upFrom 0 n) ∙ ap (λ (k : ℕ). concatMap entryAt (upFrom 0 k)) all
 
   -- a value on the list has its entry, another none
-  pub entry-listed : (v : ℕ) → set v ≡ true → entryAt v ≡ record′.MapEntry (slot v) (size v) ∷ []
-  entry-listed v e = ap {B = List Record} (λ b. elim b [ true ↦ record′.MapEntry (slot v) (size v) ∷ [] | false ↦ [] ]) e
+  pub entry-listed : (v : ℕ) → set v ≡ true → entryAt v ≡ entryOf size slot v ∷ []
+  entry-listed v e = ap {B = List Record} (λ b. elim b [ true ↦ entryOf size slot v ∷ [] | false ↦ [] ]) e
 
-  pub entry-unlisted : (v : ℕ) → set v ≡ false → entryAt v ≡ []
-  entry-unlisted v e = ap {B = List Record} (λ b. elim b [ true ↦ record′.MapEntry (slot v) (size v) ∷ [] | false ↦ [] ]) e
+  entry-unlisted : (v : ℕ) → set v ≡ false → entryAt v ≡ []
+  entry-unlisted v e = ap {B = List Record} (λ b. elim b [ true ↦ entryOf size slot v ∷ [] | false ↦ [] ]) e
 
   -- where nothing is written at any place
   nothing-written : (v r : ℕ) → fromTo (λ _. []) v r ≡ []
@@ -59,9 +68,19 @@ module _ (size slot : ℕ → ℕ) (set : NumberSet) where
 
   -- the values that are passed over have none
   pub entries-passed :
-      (v r : ℕ) → v ≤ r → ((u : ℕ) → v ≤ u → u < r → set u ≡ false) → entriesBelow v ≡ entriesBelow r
-  entries-passed v r l none =
+      (p v r : ℕ) → p ≤ v → v ≤ r → ((u : ℕ) → v ≤ u → u < r → set u ≡ false) → fromTo entryAt p v ≡ fromTo entryAt p r
+  entries-passed p v r k l none =
       sym
-      (fromTo-split entryAt 0 v r (omega arith) l
-      ∙ ap (λ (t : List Record). entriesBelow v ++ t) (fromTo-same entryAt (λ _. []) v r (λ u l m. entry-unlisted u (none u l m)) ∙ nothing-written v r)
-      ∙ append-nil (entriesBelow v))
+      (fromTo-split entryAt p v r k l
+      ∙ ap (λ (t : List Record). fromTo entryAt p v ++ t) (fromTo-same entryAt (λ _. []) v r (λ u l m. entry-unlisted u (none u l m)) ∙ nothing-written v r)
+      ∙ append-nil (fromTo entryAt p v))
+
+-- those of the values that a word has bits for, by the word
+pub entries-in-word :
+    (size slot : ℕ → ℕ) (set : NumberSet) (word base end : ℕ) → ((i : ℕ) → i < 64 → bitAt word i ≡ set (base + i)) → end ≤ base + 64
+    → fromTo (entryAt size slot (inWord word base)) base end ≡ fromTo (entryAt size slot set) base end
+entries-in-word size slot set word base end bits far =
+    fromTo-same (entryAt size slot (inWord word base)) (entryAt size slot set) base end
+    (λ v l m.
+    let there : base + (v - base) ≡ v = omega arith in
+    ap {B = List Record} (λ b. elim b [ true ↦ entryOf size slot v ∷ [] | false ↦ [] ]) (bits (v - base) (omega arith) ∙ ap set there))

@@ -1,77 +1,93 @@
--- `writing_instructions::entries::put_entries` meets its contract.
-use mathlib.Core.Path.{_≡_, refl}
-use native.Mathlib.Omega.{arith}
-use Prim.Native.Nat.{_+_, _≤_, _-_}
-use Rattle.rules.specs.File.{functionIn}
-use Rattle.rules.specs.Graph.{sizeOf}
-use Rattle.rows.specs.Rows.{rows}
-use Rattle.writing.specs.Parts.{slotIn}
-use Rattle.writing.specs.Wrote.{Wrote, lent-room}
-use Rattle.writing.specs.Places.{fromTo, wrote-start, wrote-turn, turn-room}
-use Rattle.writing_instructions.specs.Entries.{entryAt, entries-passed}
+-- `writing_instructions::entries::put_entries` meets its contract. The invariant: the entries before word k are written.
 use borrow.Author.Needs.{needs}
+use Rattle.writing_instructions.proofs.ByWord.{beforeWord, words-start, words-le, words-room, words-both, words-turn}
+use Rattle.writing.specs.Wrote.{Wrote}
+use Rattle.writing.specs.Parts.{slotIn}
+use Rattle.rows.specs.Rows.{rows}
+use Rattle.rules.specs.Graph.{sizeOf}
+use Rattle.rules.specs.File.{functionIn}
+use Rattle.rules.specs.Limits.{rowWords}
+use Prim.Native.Nat.{_*_, _-_, _≤_, min}
+use native.Mathlib.Omega.{arith}
+use mathlib.Core.Path.{_≡_}
 use Rattle.writing_instructions.proofs.entries.put_entries.Statement.{statement}
 use Rattle.writing_instructions.proofs.entries.put_entries.Tie as tie
 
 abbrev Inv-loop : tie.InvT-loop
-Inv-loop s slots lists i values out₀ at₀ v₀ out at v = (v ≤ values) × Wrote out₀ (fromTo (entryAt (sizeOf (functionIn s)) (slotIn slots) (rows lists i)) 0 v) at out
+Inv-loop s slots lists i values out₀ at₀ k₀ out at k = (k ≤ rowWords) × Wrote out₀ (beforeWord (sizeOf (functionIn s)) (slotIn slots) (rows lists i) values k) at out
 
 abbrev μ-loop : tie.MeasureT-loop
-μ-loop s slots lists i values out₀ at₀ v₀ out at v = values - v
+μ-loop s slots lists i values out₀ at₀ k₀ out at k = values - 64 * k
 
 loop-holds : tie.Need-loop-holds Inv-loop μ-loop
-loop-holds c = (search needs, wrote-start _ _ _)
+loop-holds c =
+    let start = c .before .before .before .before in
+    (search needs, words-start (sizeOf (functionIn (start .args .s .now))) (slotIn (start .args .slots .now)) (rows (start .args .lists .now) (start .args .i)) (start .args .values) _)
 
-sub-put-entry-if : tie.Need-sub-put-entry-if Inv-loop μ-loop
-sub-put-entry-if c =
-    let g = entryAt (sizeOf (functionIn (c .before .before .before .before .before .before .args .s .now))) (slotIn (c .before .before .before .before .before .before .args .slots .now)) (rows (c .before .before .before .before .before .before .args .lists .now) (c .before .before .before .before .before .before .args .i)) in
-    let fits = turn-room g 0 (c .before .loop .v) (omega arith) (c .before .before .before .before .before .before .args .values) (c .loop-test .taken) (c .before .before .before .before .before .before .pre .3) (c .before .loop .inv .1) in
+mul-loop : tie.Need-mul-loop Inv-loop μ-loop
+mul-loop c = search needs
+
+mul-base : tie.Need-mul-base Inv-loop μ-loop
+mul-base c = search needs
+
+add-least : tie.Need-add-least Inv-loop μ-loop
+add-least c = search needs
+
+least-requires : tie.Need-least-requires Inv-loop μ-loop
+least-requires c κs = search needs
+
+word-of-requires : tie.Need-word-of-requires Inv-loop μ-loop
+word-of-requires c κs = search needs
+
+sub-put-word-entries : tie.Need-sub-put-word-entries Inv-loop μ-loop
+sub-put-word-entries c =
+    let start = c .before .before .before .before .before .before .before .before in
+    let turn = c .before .before .before .loop in
+    words-le (sizeOf (functionIn (start .args .s .now))) (slotIn (start .args .slots .now)) (rows (start .args .lists .now) (start .args .i)) (start .args .values) (turn .k) (c .word-of .result) (c .before .least .result) (c .before .before .loop-test .taken) (c .before .least .ensures) (c .word-of .ensures) (turn .inv .1) (start .pre .3)
+
+part-put-word-entries-start : tie.Need-part-put-word-entries-start Inv-loop μ-loop
+part-put-word-entries-start c =
+    let start = c .before .before .before .before .before .before .before .before in
+    let turn = c .before .before .before .loop in
+    let le = words-le (sizeOf (functionIn (start .args .s .now))) (slotIn (start .args .slots .now)) (rows (start .args .lists .now) (start .args .i)) (start .args .values) (turn .k) (c .word-of .result) (c .before .least .result) (c .before .before .loop-test .taken) (c .before .least .ensures) (c .word-of .ensures) (turn .inv .1) (start .pre .3) in
     omega arith
 
-part-put-entry-if-start : tie.Need-part-put-entry-if-start Inv-loop μ-loop
-part-put-entry-if-start c =
-    let g = entryAt (sizeOf (functionIn (c .before .before .before .before .before .before .args .s .now))) (slotIn (c .before .before .before .before .before .before .args .slots .now)) (rows (c .before .before .before .before .before .before .args .lists .now) (c .before .before .before .before .before .before .args .i)) in
-    let fits = turn-room g 0 (c .before .loop .v) (omega arith) (c .before .before .before .before .before .before .args .values) (c .loop-test .taken) (c .before .before .before .before .before .before .pre .3) (c .before .loop .inv .1) in
-    omega arith
+part-put-word-entries-end : tie.Need-part-put-word-entries-end Inv-loop μ-loop
+part-put-word-entries-end c = search needs
 
-part-put-entry-if-end : tie.Need-part-put-entry-if-end Inv-loop μ-loop
-part-put-entry-if-end c = search needs
-
-put-entry-if-requires : tie.Need-put-entry-if-requires Inv-loop μ-loop
-put-entry-if-requires c κs =
-    let g = entryAt (sizeOf (functionIn (c .before .before .before .before .before .before .before .args .s .now))) (slotIn (c .before .before .before .before .before .before .before .args .slots .now)) (rows (c .before .before .before .before .before .before .before .args .lists .now) (c .before .before .before .before .before .before .before .args .i)) in
-    let fits = turn-room g 0 (c .before .before .loop .v) (omega arith) (c .before .before .before .before .before .before .before .args .values) (c .before .loop-test .taken) (c .before .before .before .before .before .before .before .pre .3) (c .before .before .loop .inv .1) in
-    (c .before .before .before .before .before .before .before .pre .0, c .before .before .before .before .before .before .before .pre .1, omega (arith, c .before .loop-test .taken, c .before .before .before .before .before .before .before .pre .2), lent-room (c .before .before .loop .out) (c .before .before .loop .at) (g (c .before .before .loop .v)) (g (c .before .before .loop .v)) refl fits)
+put-word-entries-requires : tie.Need-put-word-entries-requires Inv-loop μ-loop
+put-word-entries-requires c κs =
+    let start = c .before .before .before .before .before .before .before .before .before in
+    let turn = c .before .before .before .before .loop in
+    (start .pre .0, omega (arith, c .before .before .least .ensures, c .before .before .before .loop-test .taken), omega (arith, c .before .before .least .ensures), omega (arith, c .before .before .least .ensures, start .pre .2), words-room (sizeOf (functionIn (start .args .s .now))) (slotIn (start .args .slots .now)) (rows (start .args .lists .now) (start .args .i)) (start .args .values) (turn .k) (c .before .word-of .result) (c .before .before .least .result) (c .before .before .before .loop-test .taken) (c .before .before .least .ensures) (c .before .word-of .ensures) (turn .inv .1) (start .pre .3))
 
 add-at : tie.Need-add-at Inv-loop μ-loop
 add-at c =
-    let g = entryAt (sizeOf (functionIn (c .before .before .before .before .before .before .before .before .before .before .args .s .now))) (slotIn (c .before .before .before .before .before .before .before .before .before .before .args .slots .now)) (rows (c .before .before .before .before .before .before .before .before .before .before .args .lists .now) (c .before .before .before .before .before .before .before .before .before .before .args .i)) in
-    omega (arith, turn-room g 0 (c .before .before .before .before .before .loop .v) (omega arith) (c .before .before .before .before .before .before .before .before .before .before .args .values) (c .before .before .before .before .loop-test .taken) (c .before .before .before .before .before .before .before .before .before .before .pre .3) (c .before .before .before .before .before .loop .inv .1), c .before .before .put-entry-if .ensures .count)
+    let start = c .before .before .before .before .before .before .before .before .before .before .before .before in
+    let turn = c .before .before .before .before .before .before .before .loop in
+    omega (arith, words-both (sizeOf (functionIn (start .args .s .now))) (slotIn (start .args .slots .now)) (rows (start .args .lists .now) (start .args .i)) (start .args .values) (turn .k) (c .before .before .before .before .word-of .result) (c .before .before .before .before .before .least .result) (c .before .before .before .before .before .before .loop-test .taken) (c .before .before .before .before .before .least .ensures) (c .before .before .before .before .word-of .ensures) (turn .inv .1) (start .pre .3) (c .before .before .put-word-entries .ensures))
 
-add-next-in : tie.Need-add-next-in Inv-loop μ-loop
-add-next-in c = search needs
-
-next-in-requires : tie.Need-next-in-requires Inv-loop μ-loop
-next-in-requires c κs = (c .before .before .before .before .before .before .before .before .before .before .pre .1, omega (arith, c .before .before .before .before .loop-test .taken), c .before .before .before .before .before .before .before .before .before .before .pre .2)
+add-k : tie.Need-add-k Inv-loop μ-loop
+add-k c = search needs
 
 loop-less : tie.Need-loop-less Inv-loop μ-loop
-loop-less c = omega (arith, c .before .before .before .before .before .loop-test .taken, c .next-in .ensures .0)
+loop-less c = search needs
 
 loop-again : tie.Need-loop-again Inv-loop μ-loop
 loop-again c =
-    let size = sizeOf (functionIn (c .before .before .before .before .before .before .before .before .before .before .before .args .s .now)) in
-    let slot = slotIn (c .before .before .before .before .before .before .before .before .before .before .before .args .slots .now) in
-    let set = rows (c .before .before .before .before .before .before .before .before .before .before .before .args .lists .now) (c .before .before .before .before .before .before .before .before .before .before .before .args .i) in
-    let g = entryAt size slot set in
-    let fits = turn-room g 0 (c .before .before .before .before .before .before .loop .v) (omega arith) (c .before .before .before .before .before .before .before .before .before .before .before .args .values) (c .before .before .before .before .before .loop-test .taken) (c .before .before .before .before .before .before .before .before .before .before .before .pre .3) (c .before .before .before .before .before .before .loop .inv .1) in
-    let turned = wrote-turn g 0 (c .before .before .before .before .before .before .loop .v) (omega arith) (g (c .before .before .before .before .before .before .loop .v)) refl (c .before .before .before .before .before .before .loop .inv .1) (omega arith) (c .before .before .before .put-entry-if .ensures) in
-    (c .next-in .ensures .1, rw (entries-passed size slot set (c .before .before .before .before .before .before .loop .v + 1) (c .next-in .result) (c .next-in .ensures .0) (c .next-in .ensures .2)) at turned)
+    let start = c .before .before .before .before .before .before .before .before .before .before .before .before in
+    let turn = c .before .before .before .before .before .before .before .loop in
+    (omega (arith, c .before .before .before .before .before .before .loop-test .taken, start .pre .2), words-turn (sizeOf (functionIn (start .args .s .now))) (slotIn (start .args .slots .now)) (rows (start .args .lists .now) (start .args .i)) (start .args .values) (turn .k) (c .before .before .before .before .word-of .result) (c .before .before .before .before .before .least .result) (c .before .before .before .before .before .before .loop-test .taken) (c .before .before .before .before .before .least .ensures) (c .before .before .before .before .word-of .ensures) (turn .inv .1) (start .pre .3) (c .before .before .put-word-entries .ensures))
 
 same-length : tie.Need-same-length Inv-loop μ-loop
 same-length c = search needs
 
 returns : tie.Need-returns Inv-loop μ-loop
-returns c = let e : c .before .loop .v ≡ c .before .before .before .before .before .before .args .values = omega arith in rw e at (c .before .loop .inv .1)
+returns c =
+    let start = c .before .before .before .before .before .before in
+    let turn = c .before .loop in
+    let all : min (64 * turn .k) (start .args .values) ≡ start .args .values = omega arith in
+    rw all at (turn .inv .1)
 
 pub put-entries-spec : {M : Type 1} → statement M
 put-entries-spec =
@@ -80,13 +96,17 @@ put-entries-spec =
     Inv-loop
     μ-loop
     loop-holds
-    sub-put-entry-if
-    part-put-entry-if-start
-    part-put-entry-if-end
-    put-entry-if-requires
+    mul-loop
+    mul-base
+    add-least
+    least-requires
+    word-of-requires
+    sub-put-word-entries
+    part-put-word-entries-start
+    part-put-word-entries-end
+    put-word-entries-requires
     add-at
-    add-next-in
-    next-in-requires
+    add-k
     loop-less
     loop-again
     same-length
