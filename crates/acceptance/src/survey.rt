@@ -60,7 +60,7 @@ pub fn survey(
         };
     }
     let all = places_of(s, 2, places);
-    let of_function = function_verdict(s, counts, places);
+    let of_function = function_verdict(s, counts, places, all);
     if !is_accepted(of_function) {
         return SurveyAnswer {
             verdict: of_function,

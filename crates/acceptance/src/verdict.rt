@@ -1,6 +1,8 @@
 // What is said of a file before and without the walk: refusals 2 to 5, of its records, and 6 and 7, of its function.
 ghost use mathlib.Core.Path.{_≡_};
+ghost use lib.ListN.{length};
 ghost use Rattle.rules.specs.Records.{records};
+ghost use Rattle.rules.specs.File.{functionIn};
 ghost use Rattle.rules.specs.Refusals.{refusalNumber, firstOf, _when_};
 ghost use Rattle.rules.specs.Services.{isAccepted};
 ghost use Rattle.checks.specs.Definitions.{notedAll, Countable};
@@ -81,14 +83,14 @@ pub fn records_verdict(s: &[u8]) -> Verdict
 
 // Refusals 6 and 7: what is wrong with the function that they are, by its block table. The table of counts then has how
 // often each value is defined.
-pub fn function_verdict(s: &[u8], counts: &mut [u32], places: &[usize]) -> Verdict
-    requires { ⌜ Countable (now s) (now counts) × Given (now s) (now places) ⌝ }
+pub fn function_verdict(s: &[u8], counts: &mut [u32], places: &[usize], blocks: usize) -> Verdict
+    requires { ⌜ Countable (now s) (now counts) × Given (now s) (now places) × (blocks ≡ length (functionIn (now s) .blocks)) ⌝ }
     ensures { λ r. ⌜ (r ≡ firstOf (functionRefusals (now (s .entry)))) × (now (counts .exit) ≡ notedAll (now (counts .entry)) (records (now (s .entry)))) ⌝ }
 {
     if not_defined_once(s, counts) {
         return Verdict::NotDefinedOnce;
     }
-    if unsound(s, places) {
+    if unsound(s, places, blocks) {
         return Verdict::Unsound;
     }
     Verdict::Accepted

@@ -1,2 +1,3 @@
+pub mod EdgePlaces
 pub mod FittingCases
 pub mod StandingCases

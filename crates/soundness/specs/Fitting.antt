@@ -87,7 +87,7 @@ module _ (f : Function) where
       go false c = refl
 
   -- where no edge is
-  no-edge : (r : Record) (rs : List Record) → T (not (eqb (kind r) 7)) → edgeFits f r rs ≡ true
+  pub no-edge : (r : Record) (rs : List Record) → T (not (eqb (kind r) 7)) → edgeFits f r rs ≡ true
   no-edge r rs n = ap (λ b. not b || fit f (argumentsFirst rs) (blockAt f (encode r .second) .parameters)) (is-false (eqb (kind r) 7) n)
 
   no-edges : (rs : List Record) → Kinds (λ j. not (eqb j 7)) rs → fitting f rs ≡ true

@@ -121,7 +121,8 @@ module _ (s : List ℕ) (h : T (ordered 0 (records s))) (t : T (standing 2 (reco
       let b = behind i (omega arith) in
       one-on (kind (recordAt s i)) (b .flags) (suc i) l (b .known) (b .ended) (chain-behind s h i (omega arith)) (b .stands)
 
-  standing-tails : TailsLast s
+  -- Where each record may stand, tails stand last.
+  pub standing-tails : TailsLast s
   standing-tails i l tail other =
       let p = kind (recordAt s i) in
       let next : i + 1 ≡ suc i = add-one i in

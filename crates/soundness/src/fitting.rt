@@ -1,14 +1,17 @@
 // Refusal 7, whether edges fit: as many arguments as the target has parameters, and each value of its parameter's size.
 ghost use mathlib.Core.Path.{_≡_};
-ghost use mathlib.Core.Bool.{true};
+ghost use mathlib.Core.Bool.{true, _&&_};
 ghost use Prim.Native.Nat.{_+_, _<_, _≤_};
+ghost use lib.ListN.{length};
 ghost use Rattle.rules.specs.Records.{recordAt, recordCount, records};
 ghost use Rattle.rules.specs.File.{ordered, functionIn};
 ghost use Rattle.rules.specs.Refusals.{fit};
 ghost use Rattle.records.specs.Places.{rest};
 ghost use Rattle.records.specs.Parts.{argument};
+ghost use Rattle.graph.specs.Tails.{TailsLast, TailLast};
 ghost use Rattle.graph.specs.Tables.{Given};
 ghost use Rattle.soundness.specs.Fitting.{argumentsFirst, parametersFirst, argumentFits, edgeFits, fitting};
+use graph::edges::tail_from;
 use records::in_order::kind_at;
 use records::in_order::words_at;
 use records::in_order::words_from;
@@ -67,18 +70,34 @@ fn edge_fits(s: &[u8], places: &[usize], i: usize) -> bool
     arguments_fit(s, i + 1, places[target] + 1)
 }
 
-// Whether every edge of a file fits its target, found by the file's block table.
-pub fn edges_fit(s: &[u8], places: &[usize]) -> bool
-    requires { ⌜ Given (now s) (now places) ⌝ }
-    ensures { λ r. ⌜ r ≡ fitting (functionIn (now (s .entry))) (records (now (s .entry))) ⌝ }
+// Whether every edge from a place on and before the block's end fits, where edges stand in the block's tail. So every edge
+// from the place on fits if these do and every one from the end on.
+fn block_edges_fit(s: &[u8], places: &[usize], start: usize, end: usize) -> bool
+    requires { ⌜ Given (now s) (now places) × (start ≤ end) × (end ≤ recordCount (now s)) × TailLast (now s) start end ⌝ }
+    ensures { λ r. ⌜ (r && fitting (functionIn (now (s .entry))) (rest (now (s .entry)) end)) ≡ fitting (functionIn (now (s .entry))) (rest (now (s .entry)) start) ⌝ }
 {
-    let n = s.len() / RECORD_BYTES;
-    let mut i: usize = 0;
-    while i < n {
+    let mut i = tail_from(s, start, end);
+    while i < end {
         if !edge_fits(s, places, i) {
             return false;
         }
         i += 1;
+    }
+    true
+}
+
+// Whether every edge of a file fits its target, found by the file's block table. Each block is read from its end, as far as
+// its edges, their arguments and its contexts stand.
+pub fn edges_fit(s: &[u8], places: &[usize], blocks: usize) -> bool
+    requires { ⌜ Given (now s) (now places) × (blocks ≡ length (functionIn (now s) .blocks)) × TailsLast (now s) ⌝ }
+    ensures { λ r. ⌜ r ≡ fitting (functionIn (now (s .entry))) (records (now (s .entry))) ⌝ }
+{
+    let mut b: usize = 0;
+    while b < blocks {
+        if !block_edges_fit(s, places, places[b] + 1, places[b + 1]) {
+            return false;
+        }
+        b += 1;
     }
     true
 }

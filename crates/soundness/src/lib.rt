@@ -1,6 +1,7 @@
 // Refusal 7: the faults of a file in order that its records show only together.
 ghost use mathlib.Core.Path.{_≡_};
 ghost use mathlib.Core.Bool.{not};
+ghost use lib.ListN.{length};
 ghost use Rattle.rules.specs.File.{functionIn};
 ghost use Rattle.rules.specs.Refusals.{sound};
 ghost use Rattle.graph.specs.Tables.{Given};
@@ -12,12 +13,12 @@ pub mod standing;
 
 // Whether a file that refusals 3 to 5 let pass is unsound: a block that does not end once, results, edges or contexts where
 // the flags forbid them, an edge to block 0, or an edge that does not fit its target, found by the file's block table.
-pub fn unsound(s: &[u8], places: &[usize]) -> bool
-    requires { ⌜ Given (now s) (now places) ⌝ }
+pub fn unsound(s: &[u8], places: &[usize], blocks: usize) -> bool
+    requires { ⌜ Given (now s) (now places) × (blocks ≡ length (functionIn (now s) .blocks)) ⌝ }
     ensures { λ r. ⌜ r ≡ not (sound (functionIn (now (s .entry)))) ⌝ }
 {
     if all_stand(s) {
-        return !edges_fit(s, places);
+        return !edges_fit(s, places, blocks);
     }
     true
 }

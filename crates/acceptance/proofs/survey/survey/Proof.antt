@@ -33,7 +33,8 @@ function-verdict-requires c κs =
     let start = c .before .before .before .before .before .before .before .before .before .before .before .before .before .before .before .before in
     let s = start .args .s .now in
     let r = records-readable s (said-yes (c .before .before .before .before .before .before .before .is-accepted .ensures) (c .before .before .before .before .before .before .before .before .records-verdict .ensures) (c .before .before .before .before .before .before .if1 .left)) in
-    (readable-countable r (start .pre .counts), table-given r (start .pre .places .0) (c .before .before .before .before .places-of .ensures .1))
+    let found = c .before .before .before .before .places-of .ensures in
+    (readable-countable r (start .pre .counts), table-given r (start .pre .places .0) (found .1), found .0 ∙ length-blockPlaces s)
 
 is-accepted-requires-2 : tie.Need-is-accepted-requires-2
 is-accepted-requires-2 c κs = search needs
