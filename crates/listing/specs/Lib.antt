@@ -1,5 +1,6 @@
 pub mod Crossings
 pub mod Across
+pub mod Parted
 pub mod Stepping
 pub mod Listed
 pub mod Tables

@@ -71,6 +71,9 @@ module _ (s : List ℕ) (end : ℕ) (k : end ≤ recordCount s) where
       ap (places (eqb 4) p) (between-more s p end l k)
       ∙ ap (λ (b : Bool). placeIf b p (headsFrom s (suc p) end)) (eqb-same 4 (kind (recordAt s p)))
 
+  heads-here : (p : ℕ) → p < end → T (opens s p) → headsFrom s p end ≡ p ∷ headsFrom s (suc p) end
+  heads-here p l o = heads-more p l ∙ ap (λ (b : Bool). placeIf b p (headsFrom s (suc p) end)) (is-true (opens s p) o)
+
   length-heads : (b : Bool) (p : ℕ) (ps : List ℕ) → length ps ≤ length (placeIf b p ps)
   length-heads true p ps = omega arith
   length-heads false p ps = omega arith
@@ -113,18 +116,20 @@ module _ (s : List ℕ) (end : ℕ) (k : end ≤ recordCount s) where
         (passes-at (λ j. agree (opensItem j) (eqb 4 j)) (3 ∷ 4 ∷ 5 ∷ 6 ∷ 7 ∷ 8 ∷ 9 ∷ []) tt) rs kinds)) in
         subst (Sections isInstruction) same all-instructions
 
+    -- up to the next one
+    pub instruction-at : (p : ℕ) → start ≤ p → p < end → T (opens s p) → T (isInstruction (sectionAt s p (firstOr end (headsFrom s (suc p) end))))
+    instruction-at p l m o =
+        and-left (isInstruction (sectionAt s p (firstOr end (headsFrom s (suc p) end)))) (all isInstruction (sectionsAt s end (headsFrom s (suc p) end)))
+        (subst (λ (ps : List ℕ). Sections isInstruction (sectionsAt s end ps)) (heads-here p m o) (sections-from p l (omega arith)))
+
     -- so it has what it is asked for there, if enough numbers are left
     pub opened-at :
         (p : ℕ) (at : Spot) (behind : ℕ) → start ≤ p → p < end → at .end ≡ firstOr end (headsFrom s (suc p) end)
         → at .number + length (headsFrom s (suc p) end) ≡ behind → length (headsFrom s start end) ≤ behind → Opened s p at
-    opened-at p at behind l m place number room o =
-        let here : headsFrom s p end ≡ p ∷ headsFrom s (suc p) end =
-        heads-more p m ∙ ap (λ (b : Bool). placeIf b p (headsFrom s (suc p) end)) (is-true (opens s p) o) in
-        let first = subst (λ (ps : List ℕ). Sections isInstruction (sectionsAt s end ps)) here (sections-from p l (omega arith)) in (
-          omega (arith, ap length here, heads-fewer start p l (omega arith)),
-          subst (λ (q : ℕ). T (isInstruction (sectionAt s p q))) (sym place)
-              (and-left (isInstruction (sectionAt s p (firstOr end (headsFrom s (suc p) end)))) (all isInstruction (sectionsAt s end (headsFrom s (suc p) end))) first),
-        )
+    opened-at p at behind l m place number room o = (
+      omega (arith, ap length (heads-here p m o), heads-fewer start p l (omega arith)),
+      subst (λ (q : ℕ). T (isInstruction (sectionAt s p q))) (sym place) (instruction-at p l m o),
+    )
 
 -- HOW FAR IT HAS COME, at place p: what is live there, and the lists of the instructions from there on.
 pub record Reached (s : List ℕ) (end behind : ℕ) (out : NumberSet) (lent : ℕ → NumberSet) (p : ℕ) (at : Spot) (live lists : ℕ → NumberSet) : Type 0 where

@@ -10,13 +10,12 @@ ghost use Rattle.rules.specs.Records.{encode, isSafepoint, recordAt, recordCoun
 ghost use Rattle.rules.specs.File.{instructionOf, functionIn, ordered};
 ghost use Rattle.rules.specs.Liveness.{before};
 ghost use Rattle.records.specs.Parts.{isInstruction};
-ghost use Rattle.graph.specs.Between.{between};
 ghost use Rattle.rows.specs.Rows.{rows, HasRow};
 ghost use Rattle.blocksets.specs.InRows.{InRows};
 ghost use Rattle.listing.specs.Crossings.{put, crossing};
-ghost use Rattle.listing.specs.Across.{behindArguments, sectionAt};
+ghost use Rattle.listing.specs.Across.{sectionAt};
+use crate::runs::run_end;
 use blocksets::operands::go_back;
-use records::in_order::kind_at;
 use records::in_order::words_at;
 use rows::copy_row;
 
@@ -27,21 +26,6 @@ pub fn is_safepoint(s: &[u8], p: usize) -> bool
 {
     let w = words_at(s, p);
     w.second % 2 == 1
-}
-
-// The first place from a place on, and not behind place end, where no argument stands.
-fn behind_arguments(s: &[u8], from: usize, end: usize) -> usize
-    requires { ⌜ (from ≤ end) × (end ≤ recordCount (now s)) × (ordered 0 (records (now s)) ≡ true) ⌝ }
-    ensures { λ r. ⌜ (from ≤ r) × (r ≤ end) × (between (now (s .entry)) r end ≡ behindArguments (between (now (s .entry)) from end)) ⌝ }
-{
-    let mut i = from;
-    while i < end {
-        if kind_at(s, i) != 6 {
-            return i;
-        }
-        i += 1;
-    }
-    i
 }
 
 // Row i becomes what is live, if a safepoint stands at place p.
@@ -68,7 +52,7 @@ pub fn list_instruction(
     ensures { λ _. ⌜ (rows (now (live .exit)) ≡ update 0 (before (functionIn (now (s .entry))) (instructionOf (sectionAt (now (s .entry)) p end)) (rows (now (live .entry)) 0)) (rows (now (live .entry)))) × (rows (now (lists .exit)) ≡ put i (crossing (functionIn (now (s .entry))) (instructionOf (sectionAt (now (s .entry)) p end)) (rows (now (live .entry)) 0)) (rows (now (lists .entry)))) ⌝ }
 {
     let first = p + 1;
-    let middle = behind_arguments(s, first, end);
+    let middle = run_end(s, 6, first, end);
     go_back(s, middle, end, live, 0);
     list_live(s, p, live, lists, i);
     go_back(s, first, middle, live, 0);

@@ -2,4 +2,5 @@
 pub mod blocks;
 pub mod instructions;
 pub mod numbers;
+pub mod runs;
 pub mod safepoints;

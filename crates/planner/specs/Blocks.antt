@@ -24,6 +24,7 @@ use Rattle.graph.specs.Between.{between, between-more}
 use Rattle.graph.specs.Blocks.{placeOf, blockAt-parameters}
 use Rattle.graph.specs.Sections.{places}
 use Rattle.listing.specs.Across.{between-parted}
+use Rattle.listing.specs.Parted.{runEnd, run-parts, chain-past, ofKind-other}
 use Rattle.listing.specs.Stepping.{headsFrom, BlockRecords}
 use Rattle.rows.specs.Rows.{rows, HasRow}
 use Rattle.numbering.specs.Beside.{madeAt, madesBetween, instructionPlansAt, blockPlanAt}
@@ -35,7 +36,7 @@ use Rattle.planning.specs.Walking.{kept-none, kept-more}
 use Rattle.spiller.specs.Instructions.{anyKind}
 use Rattle.spiller.specs.InstructionSteps.{run-ready, definitions-done}
 use Rattle.planning_edges.specs.Noted.{Within, Able, able-less, able-then, Noted, Ready, _without_, ready-then, ready-less}
-use Rattle.spiller.specs.Parted.{runEnd, run-parts, chain-past, places-none, ofKind-other}
+use Rattle.spiller.specs.RunPlaces.{places-none}
 use Rattle.planning_edges.specs.Spans.{places-parted}
 use Rattle.planner.specs.Backward.{SoundEdges, listedAt, InstructionsNoted, Walk, plans-same}
 

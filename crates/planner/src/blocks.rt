@@ -15,13 +15,13 @@ ghost use Rattle.planning_edges.specs.Noted.{Within, Ready};
 ghost use Rattle.planner.specs.Backward.{LastBefore, Walk, InstructionsNoted};
 ghost use Rattle.planner.specs.Blocks.{BlockGiven, BlockReady, BlockNoted};
 use listing::blocks::count_instructions;
+use listing::runs::run_end;
 use planning::Progress;
 use planning::asks::ask_all;
 use planning::runs::plan_definitions;
 use records::in_order::kind_at;
 use spiller::instructions::InstructionSpot;
 use spiller::instructions::plan_instruction;
-use spiller::instructions::run_end;
 
 // Where a block's records stand: the first behind its own, its first instruction, the place behind it, and the number
 // behind its last instruction's.

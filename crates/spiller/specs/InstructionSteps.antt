@@ -16,6 +16,7 @@ use Rattle.records.specs.Parts.{isInstruction}
 use Rattle.graph.specs.Between.{between}
 use Rattle.numbering.specs.Beside.{madesBetween, edgePlansAt}
 use Rattle.listing.specs.Across.{sectionAt}
+use Rattle.listing.specs.Parted.{Parted, parted-by, runEnd}
 use Rattle.rows.specs.Rows.{rowValues, HasRow}
 use Rattle.planning.specs.declared.Progress.{Progress}
 use Rattle.planning.specs.Operands.{Range, useAt, defineAt}
@@ -25,7 +26,6 @@ use Rattle.planning_edges.specs.Edges.{edgeStep, EdgesIn, edgesBetween, EdgesNo
 use Rattle.spiller.specs.Instructions.{anyKind, InstructionNoted, DefinitionsNoted, UsesNoted, plain-noted, safepoint-noted}
 use Rattle.planning_edges.specs.Landings.{edgeKind}
 use Rattle.planning_edges.specs.Noted.{Within, Blank, Able, able-then, Ready, _without_, ready-then, ready-less}
-use Rattle.spiller.specs.Parted.{Parted, parted-by, runEnd}
 use Rattle.planning_edges.specs.Spans.{edgePlaces}
 use Rattle.planning_edges.specs.ReadBack.{uses-noted, definitions-noted}
 

@@ -12,12 +12,13 @@ use Rattle.rules.specs.Plan.{Plan, Made, EdgePlan, InstructionPlan, forEach, pl
 use Rattle.rules.specs.declared.Words.{Words}
 use Rattle.graph.specs.Between.{between}
 use Rattle.listing.specs.Across.{sectionAt}
+use Rattle.listing.specs.Parted.{Parted, arguments-there, results-there}
 use Rattle.numbering.specs.Beside.{madeAt, madesBetween, edgePlansAt, instructionPlanAt}
 use Rattle.planning.specs.Standing.{Tables, planOf, Kept, Ran}
 use Rattle.planning.specs.Walking.{kept-none, kept-more}
 use Rattle.planning_edges.specs.Edges.{edgeStep, EdgesNoted, edgesBetween}
 use Rattle.planning_edges.specs.Noted.{Within, Noted}
-use Rattle.spiller.specs.Parted.{Parted, arguments-there, argument-places, results-there, result-places, edges-there, edges-are}
+use Rattle.spiller.specs.RunPlaces.{argument-places, result-places, edges-there, edges-are}
 use Rattle.planning_edges.specs.Spans.{edgePlaces}
 use Rattle.planning_edges.specs.Stable.{mades-same, edges-same}
 

@@ -1,3 +1,3 @@
-pub mod Parted
+pub mod RunPlaces
 pub mod Instructions
 pub mod InstructionSteps

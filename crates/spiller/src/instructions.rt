@@ -1,46 +1,26 @@
 // One instruction: rule 1 for its results; at a safepoint rule 2, with slots for the values on its list; rule 3.
-ghost use mathlib.Core.Path.{_≡_};
-ghost use mathlib.Core.Bool.{true};
 ghost use mathlib.Core.Option.{none, some};
-ghost use Prim.Native.Nat.{_≤_};
 ghost use Rattle.rules.specs.Lists.{keep, members};
-ghost use Rattle.rules.specs.Records.{encode, isSafepoint, recordAt, recordCount, records};
-ghost use Rattle.rules.specs.File.{ordered};
+ghost use Rattle.rules.specs.Records.{encode, isSafepoint, recordAt};
 ghost use Rattle.graph.specs.Tables.{Given};
 ghost use Rattle.planning.specs.Operands.{Reading};
 ghost use Rattle.planning.specs.Standing.{tables};
 ghost use Rattle.rows.specs.Rows.{rows, HasRow};
 ghost use Rattle.spiller.specs.Instructions.{listIf, InstructionNoted};
 ghost use Rattle.spiller.specs.InstructionSteps.{InstructionRecords, InstructionReady};
-ghost use Rattle.spiller.specs.Parted.{runEnd};
 use listing::instructions::is_safepoint;
+use listing::runs::run_end;
 use planning::Progress;
 use planning::asks::ask_all;
 use planning::runs::plan_definitions;
 use planning::runs::plan_uses;
 use planning_edges::edges::plan_edges;
-use records::in_order::kind_at;
 
 // Where an instruction stands: its own place, the one behind its records, and its number.
 pub struct InstructionSpot {
     pub place: usize,
     pub end: usize,
     pub number: usize,
-}
-
-// The first place from a place on, and not behind place end, where no record of a kind stands.
-pub fn run_end(s: &[u8], kind: u32, from: usize, end: usize) -> usize
-    requires { ⌜ (from ≤ end) × (end ≤ recordCount (now s)) × (ordered 0 (records (now s)) ≡ true) ⌝ }
-    ensures { λ r. ⌜ (r ≡ runEnd (now (s .entry)) kind from end) × (r ≤ end) ⌝ }
-{
-    let mut i = from;
-    while i < end {
-        if kind_at(s, i) != kind {
-            return i;
-        }
-        i += 1;
-    }
-    i
 }
 
 // An instruction without a list: its results, its arguments, its edges.

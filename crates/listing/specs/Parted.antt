@@ -3,15 +3,15 @@
 use Prim.Native.Nat.{ℕ, zero, suc, _+_, _-_, _<_, _≤_}
 use mathlib.Core.Path.{_≡_, refl, sym, ap, ap₂, subst, _∙_}
 use mathlib.Core.Bool.{Bool, true, false, not, _&&_}
-use mathlib.Core.List.{List, [], _∷_, _++_, map, append-nil}
+use mathlib.Core.List.{List, [], _∷_, _++_, append-nil}
 use native.Mathlib.Omega.{arith}
 use native.Mathlib.Numerals.{add-one}
-use lib.ListN.{length}
+use lib.ListN.{length, drop}
 use lib.Dec.{T, eqb, eqb→eq}
 use borrow.Author.Tests.{eq-eqb, ne-eqb}
 use Rattle.rules.specs.Lists.{all, has}
 use Rattle.rules.specs.Records.{encode, kind, recordAt, recordCount}
-use Rattle.rules.specs.File.{followers, follows, Cut, ofKind, edgeOf, edgesOf}
+use Rattle.rules.specs.File.{followers, follows, ofKind}
 use Rattle.rules.specs.declared.Record.{Record}
 use Rattle.rules.specs.declared.Words.{Words}
 use Rattle.lists.specs.Tests.{and-right, and-intro, T-and, passes-at}
@@ -21,12 +21,7 @@ use Rattle.records.specs.Kinds.{Kinds, ofKind-append, ofKind-none, kinds-weaken
 use Rattle.records.specs.Leading.{leading, leadsBy, leading-all}
 use Rattle.records.specs.Parts.{inBody, isInstruction, body-chained, body-allowed}
 use Rattle.graph.specs.Between.{between, between-none, between-more, between-next}
-use Rattle.graph.specs.Sections.{places, sectionsAt, cut-between}
 use Rattle.listing.specs.Across.{sectionAt, between-parted}
-use Rattle.planning_edges.specs.Edges.{edgesBetween}
-use Rattle.planning_edges.specs.Landed.{behindFirst}
-use Rattle.planning_edges.specs.ReadBack.{length-places}
-use Rattle.planning_edges.specs.Spans.{edgePlaces, places-parted}
 
 -- where the records of kind k at the front end
 unfoldable pub runEnd : List ℕ → ℕ → ℕ → ℕ → ℕ
@@ -83,7 +78,7 @@ module _ (s : List ℕ) (k : ℕ) where
           (a ≤ q) × Kinds (λ j. eqb j k) (between s p a) × (ofKind k (between s a q) ≡ [])
       go true b leads later =
           let next : p + suc (length (leading k rs)) ≡ suc p + length (leading k rs) = omega arith in
-          let x = later (ap behindFirst leads) in
+          let x = later (ap (drop 1) leads) in
           rw next (
             x .0,
             subst (Kinds (λ j. eqb j k)) (sym (between-more s p (suc p + length (leading k rs)) (omega arith) (omega (arith, x .0))))
@@ -126,13 +121,6 @@ kinds-none k (r ∷ rs) e = go (eqb (kind r) k) e (kinds-none k rs)
         → (ofKind k rs ≡ [] → Kinds (λ j. not (eqb j k)) rs) → T (not b && all (λ x. not (eqb (kind x) k)) rs)
     go true e later = absurd (omega (arith, ap length e))
     go false e later = later e
-
-pub places-none : (k p : ℕ) (rs : List Record) → ofKind k rs ≡ [] → places (eqb k) p rs ≡ []
-places-none k p rs e = empty-by (places (eqb k) p rs) (length-places k p rs ∙ ap length e)
-  where
-    empty-by : (ps : List ℕ) → length ps ≡ 0 → ps ≡ []
-    empty-by [] h = refl
-    empty-by (x ∷ ps) h = absurd (omega (arith, h))
 
 -- records of one kind are of no other
 pub ofKind-other : (k j : ℕ) → T (not (eqb j k)) → (rs : List Record) → Kinds (λ i. eqb i j) rs → ofKind k rs ≡ []
@@ -224,14 +212,6 @@ module _ (s : List ℕ) (start end a b : ℕ) (x : Parted s start end a b) where
       ap (ofKind 6) front ∙ ofKind-append 6 (between s start a) (between s a end)
       ∙ ap (λ (ws : List Words). ofKind 6 (between s start a) ++ ws) (x .noArguments) ∙ append-nil (ofKind 6 (between s start a))
 
-  pub argument-places : places (eqb 6) start (between s start end) ≡ places (eqb 6) start (between s start a)
-  argument-places =
-      let middle = x .middle in
-      let high = x .high in
-      places-parted s (eqb 6) start a end (x .low) (omega arith) (x .inFile)
-      ∙ ap (λ (ps : List ℕ). places (eqb 6) start (between s start a) ++ ps) (places-none 6 a (between s a end) (x .noArguments))
-      ∙ append-nil (places (eqb 6) start (between s start a))
-
   -- results between a and b,
   pub results-there : ofKind 5 (between s start end) ≡ ofKind 5 (between s a b)
   results-there =
@@ -239,31 +219,3 @@ module _ (s : List ℕ) (start end a b : ℕ) (x : Parted s start end a b) where
       ∙ ap₂ (λ (ws vs : List Words). ws ++ vs) (ofKind-other 5 6 tt (between s start a) (x .arguments))
       (ap (ofKind 5) back ∙ ofKind-append 5 (between s a b) (between s b end)
       ∙ ap (λ (ws : List Words). ofKind 5 (between s a b) ++ ws) (x .noResults) ∙ append-nil (ofKind 5 (between s a b)))
-
-  pub result-places : places (eqb 5) start (between s start end) ≡ places (eqb 5) a (between s a b)
-  result-places =
-      let middle = x .middle in
-      let high = x .high in
-      places-parted s (eqb 5) start a end (x .low) (omega arith) (x .inFile)
-      ∙ ap₂ (λ (ps qs : List ℕ). ps ++ qs) (places-none 5 start (between s start a) (ofKind-other 5 6 tt (between s start a) (x .arguments)))
-      (places-parted s (eqb 5) a b end (x .middle) (x .high) (x .inFile)
-      ∙ ap (λ (ps : List ℕ). places (eqb 5) a (between s a b) ++ ps) (places-none 5 b (between s b end) (x .noResults))
-      ∙ append-nil (places (eqb 5) a (between s a b)))
-
-  -- and edges behind b
-  pub edges-there : edgePlaces s start end ≡ edgePlaces s b end
-  edges-there =
-      let middle = x .middle in
-      let high = x .high in
-      places-parted s (eqb 7) start a end (x .low) (omega arith) (x .inFile)
-      ∙ ap₂ (λ (ps qs : List ℕ). ps ++ qs) (places-none 7 start (between s start a) (ofKind-other 7 6 tt (between s start a) (x .arguments)))
-      (places-parted s (eqb 7) a b end (x .middle) (x .high) (x .inFile)
-      ∙ ap (λ (ps : List ℕ). ps ++ edgePlaces s b end) (places-none 7 a (between s a b) (ofKind-other 7 5 tt (between s a b) (x .results))))
-
-  pub edges-are : edgesOf (between s start end) ≡ edgesBetween s b end
-  edges-are =
-      let low = x .low in
-      let middle = x .middle in
-      let high = x .high in
-      ap (λ (c : Cut). map edgeOf (c .sections)) (cut-between s (eqb 7) start end (omega arith) (x .inFile))
-      ∙ ap (λ (ps : List ℕ). map edgeOf (sectionsAt s end ps)) edges-there
