@@ -113,7 +113,7 @@ chain-past k inside own j (x ∷ xs) ys h kinds c =
     (and-right (follows j (kind x)) (chain (kind x) (xs ++ ys)) c)
 
 -- where none of a kind stands
-kinds-none : (k : ℕ) (rs : List Record) → ofKind k rs ≡ [] → Kinds (λ j. not (eqb j k)) rs
+pub kinds-none : (k : ℕ) (rs : List Record) → ofKind k rs ≡ [] → Kinds (λ j. not (eqb j k)) rs
 kinds-none k [] e = tt
 kinds-none k (r ∷ rs) e = go (eqb (kind r) k) e (kinds-none k rs)
   where

@@ -2,7 +2,7 @@
 use Prim.Native.Nat.{ℕ, _+_, _-_, _<_, _≤_}
 use mathlib.Core.Path.{_≡_, refl, sym, ap, _∙_}
 use mathlib.Core.Bool.{Bool, true, false}
-use mathlib.Core.List.{List, [], _∷_, _++_, map, append-nil}
+use mathlib.Core.List.{List, [], _∷_, _++_, map}
 use native.Mathlib.Omega.{arith}
 use Rattle.rules.specs.Lists.{keep, concatMap, upFrom, NumberSet, members}
 use Rattle.rules.specs.Tree.{MapEntry}
@@ -10,7 +10,8 @@ use Rattle.rules.specs.Rewriting.{mapEntry}
 use Rattle.rules.specs.declared.Record.{Record}
 use Rattle.rules.specs.declared.Record.the-variants as record′
 use Rattle.rows.specs.Bits.{bitAt}
-use Rattle.writing.specs.Places.{fromTo, fromTo-split, fromTo-same}
+use Rattle.writing.specs.Places.{fromTo, fromTo-same}
+use Rattle.writing_instructions.specs.Passed.{passed-behind}
 
 -- the values from base on that a word has bits for, as a set
 abbrev pub inWord : ℕ → ℕ → NumberSet
@@ -57,23 +58,10 @@ module _ (size slot : ℕ → ℕ) (set : NumberSet) where
   entry-unlisted : (v : ℕ) → set v ≡ false → entryAt v ≡ []
   entry-unlisted v e = ap {B = List Record} (λ b. elim b [ true ↦ entryOf size slot v ∷ [] | false ↦ [] ]) e
 
-  -- where nothing is written at any place
-  nothing-written : (v r : ℕ) → fromTo (λ _. []) v r ≡ []
-  unfolding fromTo
-  nothing-written v r = go (upFrom v (r - v))
-    where
-      go : (us : List ℕ) → concatMap {B = Record} (λ _. []) us ≡ []
-      go [] = refl
-      go (u ∷ us) = go us
-
   -- the values that are passed over have none
   pub entries-passed :
       (p v r : ℕ) → p ≤ v → v ≤ r → ((u : ℕ) → v ≤ u → u < r → set u ≡ false) → fromTo entryAt p v ≡ fromTo entryAt p r
-  entries-passed p v r k l none =
-      sym
-      (fromTo-split entryAt p v r k l
-      ∙ ap (λ (t : List Record). fromTo entryAt p v ++ t) (fromTo-same entryAt (λ _. []) v r (λ u l m. entry-unlisted u (none u l m)) ∙ nothing-written v r)
-      ∙ append-nil (fromTo entryAt p v))
+  entries-passed p v r k l none = sym (passed-behind entryAt p v r k l (λ u l m. entry-unlisted u (none u l m)))
 
 -- those of the values that a word has bits for, by the word
 pub entries-in-word :

@@ -1,4 +1,6 @@
+pub mod Passed
 pub mod Entries
 pub mod Runs
+pub mod Narrowed
 pub mod Remade
 pub mod Instruction

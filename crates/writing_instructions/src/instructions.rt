@@ -1,32 +1,56 @@
 // One instruction: loads before it, its record with what belongs to it and its map, stores behind it.
 ghost use Prim.Native.Nat.{_<_, _≤_};
 ghost use lib.ListN.{length};
+ghost use lib.Dec.{T};
 ghost use Rattle.rules.specs.Records.{recordCount};
+ghost use Rattle.records.specs.Parts.{isInstruction};
 ghost use Rattle.rows.specs.Rows.{rows, rowValues, HasRow};
+ghost use Rattle.listing.specs.Across.{sectionAt};
 ghost use Rattle.writing.specs.Parts.{Readable};
 ghost use Rattle.writing.specs.Wrote.{room, Wrote};
-ghost use Rattle.writing_instructions.specs.Runs.{loadsRun, operandsRun, exitsRun, itselfRun, instructionRun};
+ghost use Rattle.writing_instructions.specs.Runs.{exitsRun, instructionRun};
+ghost use Rattle.writing_instructions.specs.Narrowed.{loadsIn, operandsIn, itselfIn, instructionIn};
 use crate::entries::put_entries;
+use listing::runs::run_end;
 use writing::parts::Part;
 use writing::put::put_copy;
 use writing::run::put_parts;
 use writing_edges::edges::EdgePart;
 use writing_edges::edges::put_edges;
 
-// The loads that an instruction asks for: of its arguments, and of what its edges pass.
+// Where an instruction's runs stand: its own place, its results behind its arguments, its edges and contexts behind them, and
+// where they end.
+pub struct InstructionRuns {
+    pub place: usize,
+    pub results: usize,
+    pub exits: usize,
+    pub end: usize,
+}
+
+// The loads that an instruction asks for: of its arguments, which stand before its results, and of what its edges pass.
 fn put_loads(
     s: &[u8],
     numbers: &[u32],
     slots: &[u32],
     from: usize,
+    results: usize,
+    exits: usize,
     end: usize,
     out: &mut [u8],
 ) -> usize
-    requires { ⌜ Readable (now s) (now numbers) × (from ≤ end) × (end ≤ recordCount (now s)) × (room (loadsRun (now s) (now numbers) (now slots) from end) ≤ length (now out)) ⌝ }
-    ensures { λ r. ⌜ Wrote (now (out .entry)) (loadsRun (now (s .entry)) (now (numbers .entry)) (now (slots .entry)) from end) r (now (out .exit)) ⌝ }
+    requires { ⌜ Readable (now s) (now numbers) × (from ≤ results) × (results ≤ exits) × (exits ≤ end) × (end ≤ recordCount (now s)) × (room (loadsIn (now s) (now numbers) (now slots) from results exits end) ≤ length (now out)) ⌝ }
+    ensures { λ r. ⌜ Wrote (now (out .entry)) (loadsIn (now (s .entry)) (now (numbers .entry)) (now (slots .entry)) from results exits end) r (now (out .exit)) ⌝ }
 {
-    let a = put_parts(s, numbers, slots, 6, Part::Load, from, end, out);
-    let b = put_edges(s, numbers, slots, EdgePart::Loads, from, end, &mut out[a..]);
+    let a = put_parts(s, numbers, slots, 6, Part::Load, from, results, out);
+    let b = put_edges(
+        s,
+        numbers,
+        slots,
+        EdgePart::Loads,
+        exits,
+        end,
+        &mut out[a..],
+    );
     a + b
 }
 
@@ -36,14 +60,24 @@ fn put_operands(
     numbers: &[u32],
     slots: &[u32],
     from: usize,
-    end: usize,
+    results: usize,
+    exits: usize,
     out: &mut [u8],
 ) -> usize
-    requires { ⌜ Readable (now s) (now numbers) × (from ≤ end) × (end ≤ recordCount (now s)) × (room (operandsRun (now s) (now numbers) (now slots) from end) ≤ length (now out)) ⌝ }
-    ensures { λ r. ⌜ Wrote (now (out .entry)) (operandsRun (now (s .entry)) (now (numbers .entry)) (now (slots .entry)) from end) r (now (out .exit)) ⌝ }
+    requires { ⌜ Readable (now s) (now numbers) × (from ≤ results) × (results ≤ exits) × (exits ≤ recordCount (now s)) × (room (operandsIn (now s) (now numbers) (now slots) from results exits) ≤ length (now out)) ⌝ }
+    ensures { λ r. ⌜ Wrote (now (out .entry)) (operandsIn (now (s .entry)) (now (numbers .entry)) (now (slots .entry)) from results exits) r (now (out .exit)) ⌝ }
 {
-    let a = put_parts(s, numbers, slots, 6, Part::Argument, from, end, out);
-    let b = put_parts(s, numbers, slots, 5, Part::Result, from, end, &mut out[a..]);
+    let a = put_parts(s, numbers, slots, 6, Part::Argument, from, results, out);
+    let b = put_parts(
+        s,
+        numbers,
+        slots,
+        5,
+        Part::Result,
+        results,
+        exits,
+        &mut out[a..],
+    );
     a + b
 }
 
@@ -73,7 +107,7 @@ fn put_exits(
     a + b
 }
 
-// The instruction at place p itself, whose list is row i.
+// The instruction itself, whose list is row i.
 fn put_itself(
     s: &[u8],
     numbers: &[u32],
@@ -81,20 +115,59 @@ fn put_itself(
     lists: &[u64],
     values: usize,
     i: usize,
-    p: usize,
-    end: usize,
+    at: InstructionRuns,
     out: &mut [u8],
 ) -> usize
-    requires { ⌜ Readable (now s) (now numbers) × (p < end) × (end ≤ recordCount (now s)) × HasRow (now lists) i × (values ≤ rowValues) × (room (itselfRun (now s) (now numbers) (now slots) (rows (now lists) i) values p end) ≤ length (now out)) ⌝ }
-    ensures { λ r. ⌜ Wrote (now (out .entry)) (itselfRun (now (s .entry)) (now (numbers .entry)) (now (slots .entry)) (rows (now (lists .entry)) i) values p end) r (now (out .exit)) ⌝ }
+    requires { ⌜ Readable (now s) (now numbers) × (at .place < at .results) × (at .results ≤ at .exits) × (at .exits ≤ at .end) × (at .end ≤ recordCount (now s)) × HasRow (now lists) i × (values ≤ rowValues) × (room (itselfIn (now s) (now numbers) (now slots) (rows (now lists) i) values (at .place) (at .results) (at .exits) (at .end)) ≤ length (now out)) ⌝ }
+    ensures { λ r. ⌜ Wrote (now (out .entry)) (itselfIn (now (s .entry)) (now (numbers .entry)) (now (slots .entry)) (rows (now (lists .entry)) i) values (at .place) (at .results) (at .exits) (at .end)) r (now (out .exit)) ⌝ }
 {
-    let a = put_copy(s, p, out);
-    let b = put_operands(s, numbers, slots, p + 1, end, &mut out[a..]);
+    let a = put_copy(s, at.place, out);
+    let b = put_operands(
+        s,
+        numbers,
+        slots,
+        at.place + 1,
+        at.results,
+        at.exits,
+        &mut out[a..],
+    );
     let ab = a + b;
-    let c = put_exits(s, numbers, slots, p + 1, end, &mut out[ab..]);
+    let c = put_exits(s, numbers, slots, at.exits, at.end, &mut out[ab..]);
     let abc = ab + c;
     let d = put_entries(s, slots, lists, i, values, &mut out[abc..]);
     abc + d
+}
+
+// The instruction with its loads and stores, each over its own run; its list is row i.
+fn put_runs(
+    s: &[u8],
+    numbers: &[u32],
+    slots: &[u32],
+    lists: &[u64],
+    values: usize,
+    i: usize,
+    at: InstructionRuns,
+    out: &mut [u8],
+) -> usize
+    requires { ⌜ Readable (now s) (now numbers) × (at .place < at .results) × (at .results ≤ at .exits) × (at .exits ≤ at .end) × (at .end ≤ recordCount (now s)) × HasRow (now lists) i × (values ≤ rowValues) × (room (instructionIn (now s) (now numbers) (now slots) (rows (now lists) i) values (at .place) (at .results) (at .exits) (at .end)) ≤ length (now out)) ⌝ }
+    ensures { λ r. ⌜ Wrote (now (out .entry)) (instructionIn (now (s .entry)) (now (numbers .entry)) (now (slots .entry)) (rows (now (lists .entry)) i) values (at .place) (at .results) (at .exits) (at .end)) r (now (out .exit)) ⌝ }
+{
+    let results = at.results;
+    let exits = at.exits;
+    let a = put_loads(s, numbers, slots, at.place + 1, results, exits, at.end, out);
+    let b = put_itself(s, numbers, slots, lists, values, i, at, &mut out[a..]);
+    let ab = a + b;
+    let c = put_parts(
+        s,
+        numbers,
+        slots,
+        5,
+        Part::Store,
+        results,
+        exits,
+        &mut out[ab..],
+    );
+    ab + c
 }
 
 // The instruction at place p with its loads and stores; its list is row i.
@@ -109,21 +182,16 @@ pub fn put_instruction(
     end: usize,
     out: &mut [u8],
 ) -> usize
-    requires { ⌜ Readable (now s) (now numbers) × (p < end) × (end ≤ recordCount (now s)) × HasRow (now lists) i × (values ≤ rowValues) × (room (instructionRun (now s) (now numbers) (now slots) (rows (now lists) i) values p end) ≤ length (now out)) ⌝ }
+    requires { ⌜ Readable (now s) (now numbers) × (p < end) × (end ≤ recordCount (now s)) × HasRow (now lists) i × (values ≤ rowValues) × (room (instructionRun (now s) (now numbers) (now slots) (rows (now lists) i) values p end) ≤ length (now out)) × T (isInstruction (sectionAt (now s) p end)) ⌝ }
     ensures { λ r. ⌜ Wrote (now (out .entry)) (instructionRun (now (s .entry)) (now (numbers .entry)) (now (slots .entry)) (rows (now (lists .entry)) i) values p end) r (now (out .exit)) ⌝ }
 {
-    let a = put_loads(s, numbers, slots, p + 1, end, out);
-    let b = put_itself(s, numbers, slots, lists, values, i, p, end, &mut out[a..]);
-    let ab = a + b;
-    let c = put_parts(
-        s,
-        numbers,
-        slots,
-        5,
-        Part::Store,
-        p + 1,
+    let results = run_end(s, 6, p + 1, end);
+    let exits = run_end(s, 5, results, end);
+    let at = InstructionRuns {
+        place: p,
+        results,
+        exits,
         end,
-        &mut out[ab..],
-    );
-    ab + c
+    };
+    put_runs(s, numbers, slots, lists, values, i, at, out)
 }

@@ -13,26 +13,26 @@ use Rattle.writing_instructions.proofs.instructions.put_loads.Tie as ti
 
 put-parts-requires : tie.Need-put-parts-requires
 put-parts-requires c κs =
-    let b1 : List Record = partsRun (c .before .before .before .before .before .args .s .now) (c .before .before .before .before .before .args .numbers .now) (c .before .before .before .before .before .args .slots .now) 6 part.Load (c .before .before .before .before .before .args .from) (c .before .before .before .before .before .args .end) in
-    let b2 : List Record = edgesRun (c .before .before .before .before .before .args .s .now) (c .before .before .before .before .before .args .numbers .now) (c .before .before .before .before .before .args .slots .now) edge.Loads (c .before .before .before .before .before .args .from) (c .before .before .before .before .before .args .end) in
-    let h2 = c .before .before .before .before .before .pre .3 in
+    let b1 : List Record = partsRun (c .before .before .before .before .before .args .s .now) (c .before .before .before .before .before .args .numbers .now) (c .before .before .before .before .before .args .slots .now) 6 part.Load (c .before .before .before .before .before .args .from) (c .before .before .before .before .before .args .results) in
+    let b2 : List Record = edgesRun (c .before .before .before .before .before .args .s .now) (c .before .before .before .before .before .args .numbers .now) (c .before .before .before .before .before .args .slots .now) edge.Loads (c .before .before .before .before .before .args .exits) (c .before .before .before .before .before .args .end) in
+    let h2 = c .before .before .before .before .before .pre .5 in
     let h1 = first-fits b1 b2 (c .before .before .before .before .before .args .out .now) h2 in
-    (c .before .before .before .before .before .pre .0, c .before .before .before .before .before .pre .1, c .before .before .before .before .before .pre .2, h1, refl)
+    (c .before .before .before .before .before .pre .0, c .before .before .before .before .before .pre .1, omega (arith, c .before .before .before .before .before .pre .2, c .before .before .before .before .before .pre .3, c .before .before .before .before .before .pre .4), h1, refl)
 
 sub-put-edges : tie.Need-sub-put-edges
 sub-put-edges c =
-    let b1 : List Record = partsRun (c .before .before .before .before .before .before .before .before .args .s .now) (c .before .before .before .before .before .before .before .before .args .numbers .now) (c .before .before .before .before .before .before .before .before .args .slots .now) 6 part.Load (c .before .before .before .before .before .before .before .before .args .from) (c .before .before .before .before .before .before .before .before .args .end) in
-    let b2 : List Record = edgesRun (c .before .before .before .before .before .before .before .before .args .s .now) (c .before .before .before .before .before .before .before .before .args .numbers .now) (c .before .before .before .before .before .before .before .before .args .slots .now) edge.Loads (c .before .before .before .before .before .before .before .before .args .from) (c .before .before .before .before .before .before .before .before .args .end) in
-    let h2 = c .before .before .before .before .before .before .before .before .pre .3 in
+    let b1 : List Record = partsRun (c .before .before .before .before .before .before .before .before .args .s .now) (c .before .before .before .before .before .before .before .before .args .numbers .now) (c .before .before .before .before .before .before .before .before .args .slots .now) 6 part.Load (c .before .before .before .before .before .before .before .before .args .from) (c .before .before .before .before .before .before .before .before .args .results) in
+    let b2 : List Record = edgesRun (c .before .before .before .before .before .before .before .before .args .s .now) (c .before .before .before .before .before .before .before .before .args .numbers .now) (c .before .before .before .before .before .before .before .before .args .slots .now) edge.Loads (c .before .before .before .before .before .before .before .before .args .exits) (c .before .before .before .before .before .before .before .before .args .end) in
+    let h2 = c .before .before .before .before .before .before .before .before .pre .5 in
     let h1 = first-fits b1 b2 (c .before .before .before .before .before .before .before .before .args .out .now) h2 in
     let w1 = c .before .before .put-parts .ensures in
     let l = written-le w1 b2 h2 in omega arith
 
 part-put-edges-start : tie.Need-part-put-edges-start
 part-put-edges-start c =
-    let b1 : List Record = partsRun (c .before .before .before .before .before .before .before .before .args .s .now) (c .before .before .before .before .before .before .before .before .args .numbers .now) (c .before .before .before .before .before .before .before .before .args .slots .now) 6 part.Load (c .before .before .before .before .before .before .before .before .args .from) (c .before .before .before .before .before .before .before .before .args .end) in
-    let b2 : List Record = edgesRun (c .before .before .before .before .before .before .before .before .args .s .now) (c .before .before .before .before .before .before .before .before .args .numbers .now) (c .before .before .before .before .before .before .before .before .args .slots .now) edge.Loads (c .before .before .before .before .before .before .before .before .args .from) (c .before .before .before .before .before .before .before .before .args .end) in
-    let h2 = c .before .before .before .before .before .before .before .before .pre .3 in
+    let b1 : List Record = partsRun (c .before .before .before .before .before .before .before .before .args .s .now) (c .before .before .before .before .before .before .before .before .args .numbers .now) (c .before .before .before .before .before .before .before .before .args .slots .now) 6 part.Load (c .before .before .before .before .before .before .before .before .args .from) (c .before .before .before .before .before .before .before .before .args .results) in
+    let b2 : List Record = edgesRun (c .before .before .before .before .before .before .before .before .args .s .now) (c .before .before .before .before .before .before .before .before .args .numbers .now) (c .before .before .before .before .before .before .before .before .args .slots .now) edge.Loads (c .before .before .before .before .before .before .before .before .args .exits) (c .before .before .before .before .before .before .before .before .args .end) in
+    let h2 = c .before .before .before .before .before .before .before .before .pre .5 in
     let h1 = first-fits b1 b2 (c .before .before .before .before .before .before .before .before .args .out .now) h2 in
     let w1 = c .before .before .put-parts .ensures in
     let l = written-le w1 b2 h2 in omega arith
@@ -42,18 +42,18 @@ part-put-edges-end c = search needs
 
 put-edges-requires : tie.Need-put-edges-requires
 put-edges-requires c κs =
-    let b1 : List Record = partsRun (c .before .before .before .before .before .before .before .before .before .args .s .now) (c .before .before .before .before .before .before .before .before .before .args .numbers .now) (c .before .before .before .before .before .before .before .before .before .args .slots .now) 6 part.Load (c .before .before .before .before .before .before .before .before .before .args .from) (c .before .before .before .before .before .before .before .before .before .args .end) in
-    let b2 : List Record = edgesRun (c .before .before .before .before .before .before .before .before .before .args .s .now) (c .before .before .before .before .before .before .before .before .before .args .numbers .now) (c .before .before .before .before .before .before .before .before .before .args .slots .now) edge.Loads (c .before .before .before .before .before .before .before .before .before .args .from) (c .before .before .before .before .before .before .before .before .before .args .end) in
-    let h2 = c .before .before .before .before .before .before .before .before .before .pre .3 in
+    let b1 : List Record = partsRun (c .before .before .before .before .before .before .before .before .before .args .s .now) (c .before .before .before .before .before .before .before .before .before .args .numbers .now) (c .before .before .before .before .before .before .before .before .before .args .slots .now) 6 part.Load (c .before .before .before .before .before .before .before .before .before .args .from) (c .before .before .before .before .before .before .before .before .before .args .results) in
+    let b2 : List Record = edgesRun (c .before .before .before .before .before .before .before .before .before .args .s .now) (c .before .before .before .before .before .before .before .before .before .args .numbers .now) (c .before .before .before .before .before .before .before .before .before .args .slots .now) edge.Loads (c .before .before .before .before .before .before .before .before .before .args .exits) (c .before .before .before .before .before .before .before .before .before .args .end) in
+    let h2 = c .before .before .before .before .before .before .before .before .before .pre .5 in
     let h1 = first-fits b1 b2 (c .before .before .before .before .before .before .before .before .before .args .out .now) h2 in
     let w1 = c .before .before .before .put-parts .ensures in
-    (c .before .before .before .before .before .before .before .before .before .pre .0, c .before .before .before .before .before .before .before .before .before .pre .1, c .before .before .before .before .before .before .before .before .before .pre .2, next-fits w1 b2 h2)
+    (c .before .before .before .before .before .before .before .before .before .pre .0, c .before .before .before .before .before .before .before .before .before .pre .3, c .before .before .before .before .before .before .before .before .before .pre .4, next-fits w1 b2 h2)
 
 add-result : tie.Need-add-result
 add-result c =
-    let b1 : List Record = partsRun (c .before .before .before .before .before .before .before .before .before .before .before .before .args .s .now) (c .before .before .before .before .before .before .before .before .before .before .before .before .args .numbers .now) (c .before .before .before .before .before .before .before .before .before .before .before .before .args .slots .now) 6 part.Load (c .before .before .before .before .before .before .before .before .before .before .before .before .args .from) (c .before .before .before .before .before .before .before .before .before .before .before .before .args .end) in
-    let b2 : List Record = edgesRun (c .before .before .before .before .before .before .before .before .before .before .before .before .args .s .now) (c .before .before .before .before .before .before .before .before .before .before .before .before .args .numbers .now) (c .before .before .before .before .before .before .before .before .before .before .before .before .args .slots .now) edge.Loads (c .before .before .before .before .before .before .before .before .before .before .before .before .args .from) (c .before .before .before .before .before .before .before .before .before .before .before .before .args .end) in
-    let h2 = c .before .before .before .before .before .before .before .before .before .before .before .before .pre .3 in
+    let b1 : List Record = partsRun (c .before .before .before .before .before .before .before .before .before .before .before .before .args .s .now) (c .before .before .before .before .before .before .before .before .before .before .before .before .args .numbers .now) (c .before .before .before .before .before .before .before .before .before .before .before .before .args .slots .now) 6 part.Load (c .before .before .before .before .before .before .before .before .before .before .before .before .args .from) (c .before .before .before .before .before .before .before .before .before .before .before .before .args .results) in
+    let b2 : List Record = edgesRun (c .before .before .before .before .before .before .before .before .before .before .before .before .args .s .now) (c .before .before .before .before .before .before .before .before .before .before .before .before .args .numbers .now) (c .before .before .before .before .before .before .before .before .before .before .before .before .args .slots .now) edge.Loads (c .before .before .before .before .before .before .before .before .before .before .before .before .args .exits) (c .before .before .before .before .before .before .before .before .before .before .before .before .args .end) in
+    let h2 = c .before .before .before .before .before .before .before .before .before .before .before .before .pre .5 in
     let h1 = first-fits b1 b2 (c .before .before .before .before .before .before .before .before .before .before .before .before .args .out .now) h2 in
     let w1 = c .before .before .before .before .before .before .put-parts .ensures in
     let l = both-le w1 b2 h2 (c .before .before .put-edges .ensures) in
@@ -64,9 +64,9 @@ same-length c = search needs
 
 returns : tie.Need-returns
 returns c =
-    let b1 : List Record = partsRun (c .before .before .before .before .before .before .before .before .before .before .before .before .args .s .now) (c .before .before .before .before .before .before .before .before .before .before .before .before .args .numbers .now) (c .before .before .before .before .before .before .before .before .before .before .before .before .args .slots .now) 6 part.Load (c .before .before .before .before .before .before .before .before .before .before .before .before .args .from) (c .before .before .before .before .before .before .before .before .before .before .before .before .args .end) in
-    let b2 : List Record = edgesRun (c .before .before .before .before .before .before .before .before .before .before .before .before .args .s .now) (c .before .before .before .before .before .before .before .before .before .before .before .before .args .numbers .now) (c .before .before .before .before .before .before .before .before .before .before .before .before .args .slots .now) edge.Loads (c .before .before .before .before .before .before .before .before .before .before .before .before .args .from) (c .before .before .before .before .before .before .before .before .before .before .before .before .args .end) in
-    let h2 = c .before .before .before .before .before .before .before .before .before .before .before .before .pre .3 in
+    let b1 : List Record = partsRun (c .before .before .before .before .before .before .before .before .before .before .before .before .args .s .now) (c .before .before .before .before .before .before .before .before .before .before .before .before .args .numbers .now) (c .before .before .before .before .before .before .before .before .before .before .before .before .args .slots .now) 6 part.Load (c .before .before .before .before .before .before .before .before .before .before .before .before .args .from) (c .before .before .before .before .before .before .before .before .before .before .before .before .args .results) in
+    let b2 : List Record = edgesRun (c .before .before .before .before .before .before .before .before .before .before .before .before .args .s .now) (c .before .before .before .before .before .before .before .before .before .before .before .before .args .numbers .now) (c .before .before .before .before .before .before .before .before .before .before .before .before .args .slots .now) edge.Loads (c .before .before .before .before .before .before .before .before .before .before .before .before .args .exits) (c .before .before .before .before .before .before .before .before .before .before .before .before .args .end) in
+    let h2 = c .before .before .before .before .before .before .before .before .before .before .before .before .pre .5 in
     let h1 = first-fits b1 b2 (c .before .before .before .before .before .before .before .before .before .before .before .before .args .out .now) h2 in
     let w1 = c .before .before .before .before .before .before .put-parts .ensures in
     let w2 = wrote-then w1 (written-le w1 b2 h2) (c .before .before .put-edges .ensures) in
