@@ -1,15 +1,19 @@
 -- A block as it is written, run by run, and its instructions by place.
 use Prim.Native.Nat.{ℕ, zero, suc, _+_, _-_, _≤_, _<_}
-use mathlib.Core.Path.{_≡_, sym, ap, _∙_}
+use mathlib.Core.Path.{_≡_, sym, ap, subst, _∙_}
 use mathlib.Core.Bool.{Bool, true, false}
 use mathlib.Core.List.{List, [], _∷_, _++_}
 use native.Mathlib.Omega.{arith}
 use native.Mathlib.Numerals.{add-one}
-use lib.Dec.{eqb, eqb→eq, not-T}
+use lib.Dec.{T, eqb, eqb→eq, not-T}
 use Rattle.rules.specs.Lists.{NumberSet}
 use Rattle.rules.specs.Records.{kind, recordAt}
 use Rattle.rules.specs.declared.Record.{Record}
 use Rattle.lists.specs.Tests.{eq→eqb, chosen, left-out}
+use Rattle.records.specs.Parts.{isInstruction}
+use Rattle.graph.specs.Sections.{firstOr}
+use Rattle.listing.specs.Across.{sectionAt}
+use Rattle.listing.specs.Stepping.{headsFrom, BlockRecords, instruction-at}
 use Rattle.writing_edges.specs.declared.edges.EdgePart.the-variants as edge
 use Rattle.writing.specs.declared.parts.Part.the-variants as part
 use Rattle.writing.specs.Next.{nextPlace}
@@ -45,6 +49,15 @@ module _ (s : List ℕ) (p : ℕ) where
       ap (numberAt s) (add-one p)
       ∙ left-out (eqb (kind (recordAt s p)) 4) (suc (numberAt s p)) (numberAt s p)
       (not-T (eqb (kind (recordAt s p)) 4) (λ t. h (eqb→eq (kind (recordAt s p)) 4 t)))
+
+-- among a block's records what starts at an instruction, up to the next one, is one
+pub instruction-next :
+    (s : List ℕ) (start end : ℕ) → BlockRecords s start end → (p : ℕ) → start ≤ p → p < end → kind (recordAt s p) ≡ 4
+    → T (isInstruction (sectionAt s p (nextPlace s 4 (p + 1) end)))
+unfolding nextPlace
+instruction-next s start end h p l m four =
+    subst (λ (i : ℕ). T (isInstruction (sectionAt s p (firstOr end (headsFrom s i end))))) (sym (add-one p))
+    (instruction-at s end (h .inside) start h p l m (eq→eqb four))
 
 module _ (s numbers slots : List ℕ) where
   -- the landings of the instruction at a place, among records that end before place q

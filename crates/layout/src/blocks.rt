@@ -3,10 +3,15 @@ ghost use mathlib.Core.Path.{_≡_};
 ghost use mathlib.Core.Bool.{true};
 ghost use Prim.Native.Nat.{_+_, _*_, _<_, _≤_};
 ghost use lib.ListN.{length};
+ghost use lib.Dec.{T};
 ghost use Rattle.rules.specs.Limits.{rowWords};
 ghost use Rattle.rules.specs.Records.{kind, recordAt, recordCount, records};
 ghost use Rattle.rules.specs.File.{ordered};
+ghost use Rattle.records.specs.Parts.{isInstruction};
 ghost use Rattle.rows.specs.Rows.{rows, rowValues, HasRow};
+ghost use Rattle.listing.specs.Across.{sectionAt};
+ghost use Rattle.listing.specs.Stepping.{BlockRecords};
+ghost use Rattle.writing.specs.Next.{nextPlace};
 ghost use Rattle.writing.specs.Parts.{Readable};
 ghost use Rattle.writing.specs.Places.{fromTo};
 ghost use Rattle.writing.specs.Wrote.{room, Wrote};
@@ -33,7 +38,7 @@ fn put_instruction_at(
     end: usize,
     out: &mut [u8],
 ) -> usize
-    requires { ⌜ Readable (now s) (now numbers) × (p < end) × (end ≤ recordCount (now s)) × (kind (recordAt (now s) p) ≡ 4 → HasRow (now lists) i) × (values ≤ rowValues) × (room (instructionIf (now s) (now numbers) (now slots) values (rows (now lists) i) end p) ≤ length (now out)) ⌝ }
+    requires { ⌜ Readable (now s) (now numbers) × (p < end) × (end ≤ recordCount (now s)) × (kind (recordAt (now s) p) ≡ 4 → HasRow (now lists) i) × (values ≤ rowValues) × (room (instructionIf (now s) (now numbers) (now slots) values (rows (now lists) i) end p) ≤ length (now out)) × (kind (recordAt (now s) p) ≡ 4 → T (isInstruction (sectionAt (now s) p (nextPlace (now s) 4 (p + 1) end)))) ⌝ }
     ensures { λ r. ⌜ Wrote (now (out .entry)) (instructionIf (now (s .entry)) (now (numbers .entry)) (now (slots .entry)) values (rows (now (lists .entry)) i) end p) r (now (out .exit)) ⌝ }
 {
     if kind_at(s, p) == 4 {
@@ -66,7 +71,7 @@ fn put_instructions(
     end: usize,
     out: &mut [u8],
 ) -> usize
-    requires { ⌜ Readable (now s) (now numbers) × (from ≤ end) × (end ≤ recordCount (now s)) × (rowWords * numberAt (now s) end ≤ length (now lists)) × (values ≤ rowValues) × (first ≡ numberAt (now s) from) × (room (fromTo (instructionPartAt (now s) (now numbers) (now slots) values (rows (now lists)) end) from end) ≤ length (now out)) ⌝ }
+    requires { ⌜ Readable (now s) (now numbers) × (from ≤ end) × (end ≤ recordCount (now s)) × (rowWords * numberAt (now s) end ≤ length (now lists)) × (values ≤ rowValues) × (first ≡ numberAt (now s) from) × (room (fromTo (instructionPartAt (now s) (now numbers) (now slots) values (rows (now lists)) end) from end) ≤ length (now out)) × BlockRecords (now s) from end ⌝ }
     ensures { λ r. ⌜ Wrote (now (out .entry)) (fromTo (instructionPartAt (now (s .entry)) (now (numbers .entry)) (now (slots .entry)) values (rows (now (lists .entry))) end) from end) r (now (out .exit)) ⌝ }
 {
     let mut at = 0;
@@ -166,7 +171,7 @@ pub fn put_block(
     end: usize,
     out: &mut [u8],
 ) -> usize
-    requires { ⌜ Readable (now s) (now numbers) × (p < end) × (end ≤ recordCount (now s)) × (rowWords * numberAt (now s) end ≤ length (now lists)) × (values ≤ rowValues) × (first ≡ numberAt (now s) (p + 1)) × (room (blockRun (now s) (now numbers) (now slots) values (rows (now lists)) p end) ≤ length (now out)) ⌝ }
+    requires { ⌜ Readable (now s) (now numbers) × (p < end) × (end ≤ recordCount (now s)) × (rowWords * numberAt (now s) end ≤ length (now lists)) × (values ≤ rowValues) × (first ≡ numberAt (now s) (p + 1)) × (room (blockRun (now s) (now numbers) (now slots) values (rows (now lists)) p end) ≤ length (now out)) × BlockRecords (now s) (p + 1) end ⌝ }
     ensures { λ r. ⌜ Wrote (now (out .entry)) (blockRun (now (s .entry)) (now (numbers .entry)) (now (slots .entry)) values (rows (now (lists .entry))) p end) r (now (out .exit)) ⌝ }
 {
     let from = p + 1;

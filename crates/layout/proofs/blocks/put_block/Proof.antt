@@ -62,7 +62,7 @@ put-instructions-requires c κs =
     let h2 = first-fits (b1 ++ b2) b3 (c .before .before .before .before .before .before .before .before .before .before .args .out .now) h3 in
     let h1 = first-fits b1 b2 (c .before .before .before .before .before .before .before .before .before .before .args .out .now) h2 in
     let w1 = c .before .before .before .put-head .ensures in
-    (c .before .before .before .before .before .before .before .before .before .before .pre .0, omega (arith, c .before .before .before .before .before .before .before .before .before .before .pre .1), c .before .before .before .before .before .before .before .before .before .before .pre .2, c .before .before .before .before .before .before .before .before .before .before .pre .3, c .before .before .before .before .before .before .before .before .before .before .pre .4, c .before .before .before .before .before .before .before .before .before .before .pre .5, next-fits w1 b2 h2)
+    (c .before .before .before .before .before .before .before .before .before .before .pre .0, omega (arith, c .before .before .before .before .before .before .before .before .before .before .pre .1), c .before .before .before .before .before .before .before .before .before .before .pre .2, c .before .before .before .before .before .before .before .before .before .before .pre .3, c .before .before .before .before .before .before .before .before .before .before .pre .4, c .before .before .before .before .before .before .before .before .before .before .pre .5, next-fits w1 b2 h2, c .before .before .before .before .before .before .before .before .before .before .pre .7)
 
 add-ab : tie.Need-add-ab
 unfolding blockRun

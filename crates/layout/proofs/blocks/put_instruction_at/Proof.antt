@@ -1,9 +1,12 @@
 -- `layout::blocks::put_instruction_at` meets its contract.
-use mathlib.Core.Path.{sym, ap, _∙_}
+use mathlib.Core.Path.{sym, ap, subst, _∙_}
 use mathlib.Core.List.{[]}
 use native.Mathlib.Omega.{arith}
-use Prim.Native.Nat.{_+_}
+use Prim.Native.Nat.{ℕ, _+_}
 use lib.ListN.{length}
+use lib.Dec.{T}
+use Rattle.records.specs.Parts.{isInstruction}
+use Rattle.listing.specs.Across.{sectionAt}
 use Rattle.rows.specs.Rows.{rows}
 use Rattle.writing.specs.Next.{nextPlace-bounds}
 use Rattle.writing.specs.Wrote.{wrote-as, wrote-none}
@@ -25,7 +28,7 @@ put-instruction-requires : tie.Need-put-instruction-requires
 put-instruction-requires c κs =
     let within = nextPlace-bounds (c .before .before .before .before .before .before .before .before .before .args .s .now) 4 (c .before .before .before .before .before .before .before .before .before .args .p + 1) (c .before .before .before .before .before .before .before .before .before .args .end) (omega (arith, c .before .before .before .before .before .before .before .before .before .pre .1)) (c .before .before .before .before .before .before .before .before .before .pre .2) in
     let four = (sym (c .before .before .before .kind-at .ensures .0) ∙ c .before .before .if1 .taken) in
-    (c .before .before .before .before .before .before .before .before .before .pre .0, omega (arith, within .0, c .before .next-place .ensures), omega (arith, within .1, c .before .next-place .ensures, c .before .before .before .before .before .before .before .before .before .pre .2), c .before .before .before .before .before .before .before .before .before .pre .3 four, c .before .before .before .before .before .before .before .before .before .pre .4, omega (arith, c .before .before .before .before .before .before .before .before .before .pre .5, ap length (instruction-here (c .before .before .before .before .before .before .before .before .before .args .s .now) (c .before .before .before .before .before .before .before .before .before .args .numbers .now) (c .before .before .before .before .before .before .before .before .before .args .slots .now) (c .before .before .before .before .before .before .before .before .before .args .values) (rows (c .before .before .before .before .before .before .before .before .before .args .lists .now) (c .before .before .before .before .before .before .before .before .before .args .i)) (c .before .before .before .before .before .before .before .before .before .args .p) (c .before .before .before .before .before .before .before .before .before .args .end) (c .before .next-place .result) (sym (c .before .before .before .kind-at .ensures .0) ∙ c .before .before .if1 .taken) (c .before .next-place .ensures))))
+    (c .before .before .before .before .before .before .before .before .before .pre .0, omega (arith, within .0, c .before .next-place .ensures), omega (arith, within .1, c .before .next-place .ensures, c .before .before .before .before .before .before .before .before .before .pre .2), c .before .before .before .before .before .before .before .before .before .pre .3 four, c .before .before .before .before .before .before .before .before .before .pre .4, omega (arith, c .before .before .before .before .before .before .before .before .before .pre .5, ap length (instruction-here (c .before .before .before .before .before .before .before .before .before .args .s .now) (c .before .before .before .before .before .before .before .before .before .args .numbers .now) (c .before .before .before .before .before .before .before .before .before .args .slots .now) (c .before .before .before .before .before .before .before .before .before .args .values) (rows (c .before .before .before .before .before .before .before .before .before .args .lists .now) (c .before .before .before .before .before .before .before .before .before .args .i)) (c .before .before .before .before .before .before .before .before .before .args .p) (c .before .before .before .before .before .before .before .before .before .args .end) (c .before .next-place .result) (sym (c .before .before .before .kind-at .ensures .0) ∙ c .before .before .if1 .taken) (c .before .next-place .ensures))), subst (λ (q : ℕ). T (isInstruction (sectionAt (c .before .before .before .before .before .before .before .before .before .args .s .now) (c .before .before .before .before .before .before .before .before .before .args .p) q))) (sym (c .before .next-place .ensures)) (c .before .before .before .before .before .before .before .before .before .pre .6 four))
 
 same-length : tie.Need-same-length
 same-length c = search needs
