@@ -70,7 +70,7 @@ blank-tables =
     }
 
 -- what is handed back. Definitions are counted and blocks found where refusals 2 to 5 let the file pass, and it is walked
--- where 6 and 7 do too; a table that is not come to is as it was lent.
+-- where 6 and 7 do too; a table that is not come to is as it was lent. Blocks are told only of a file that was walked.
 pub record Surveyed (s : List ℕ) (lent back : SurveyTables) (verdict : Verdict) (blocks : BlockCounts) : Type 0 where
   pub says : verdict ≡ firstOf (fileRefusals s)
   pub all-counted : blocks .all ≡ elim (functionPasses s) [ true ↦ length (functionIn s .blocks) | false ↦ 0 ]
@@ -179,7 +179,7 @@ module _ {s : List ℕ} (r : Readable s) where
             (ap length isTable ∙ length-padded n (blockTable s) (omega (arith, length-blockTable s, blocks-few s (r .few))));
       }
 
-  -- that its blocks end with their edges,
+  -- that its blocks' tails stand last,
   pub function-tails : T (isAccepted (firstOf (functionRefusals s))) → TailsLast s
   function-tails passed = sound-tails s (r .inOrder) (function-is s passed .1)
 

@@ -10,7 +10,7 @@ ghost use Rattle.graph.specs.Tables.{Given};
 ghost use Rattle.acceptance.specs.Stages.{thenRefused, recordRefusals, functionRefusals};
 use checks::counts::count_kinds;
 use checks::counts::too_long;
-use checks::counts::too_many;
+use checks::counts::above_largest;
 use checks::definitions::not_defined_once;
 use checks::numbers::not_in_file;
 use checks::order::malformed;
@@ -69,7 +69,7 @@ pub fn records_verdict(s: &[u8]) -> Verdict
         return Verdict::TooMany;
     }
     let of = count_kinds(s);
-    if too_many(of) {
+    if above_largest(of) {
         return Verdict::TooMany;
     }
     if malformed(s) {

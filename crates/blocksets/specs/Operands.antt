@@ -48,6 +48,7 @@ operandBy k v =
     (cond (eqb k 5) (operand.Defined v)
     (cond (eqb k 3) (operand.Defined v) operand.Neither))
 
+-- so is what any record but an edge argument does
 pub operand-by-words : (r : Record) → T (not (eqb (kind r) 8)) → operandBy (kind r) (encode r .second) ≡ operandOf r
 operand-by-words (record′.Value _ _) h = refl
 operand-by-words (record′.Block _ _) h = refl

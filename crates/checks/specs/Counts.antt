@@ -10,7 +10,7 @@ use Rattle.rules.specs.Records.{recordCount, firstWords}
 use Rattle.rules.specs.Refusals.{tooMany}
 use Rattle.checks.specs.declared.counts.KindCounts.{KindCounts}
 
--- they are the file's, by the first words of its records
+-- the counts are the file's, by the first words of its records
 abbrev pub CountsOf : List ℕ → KindCounts → Type 0
 CountsOf s of =
     (of .values ≡ count (eqb 1) (firstWords s)) × (of .blocks ≡ count (eqb 2) (firstWords s))

@@ -64,7 +64,7 @@ pub fn too_long(s: &[u8]) -> bool
 }
 
 // Whether it has more of a kind than the largest count.
-pub fn too_many(of: KindCounts) -> bool
+pub fn above_largest(of: KindCounts) -> bool
     ensures { λ r. ⌜ r ≡ aboveLargest of ⌝ }
 {
     if LARGEST_VALUES < of.values {

@@ -121,7 +121,7 @@ pub record Ready (s places : List ℕ) (t : Tables) : Type 0 where
   -- a block's edges are found from its end
   pub tails : TailsLast s
 
--- THE PROMISE. What is lent: tables of zeros with a place for each block, of a file whose blocks end with their edges,
+-- THE PROMISE. What is lent: tables of zeros with a place for each block, of a file whose blocks' tails stand last,
 pub record Lent (s places : List ℕ) (t : Tables) : Type 0 where
   pub given : Given s places
   pub room : Room (length (functionIn s .blocks)) t

@@ -2,7 +2,7 @@
 ghost use mathlib.Core.Path.{_≡_};
 ghost use mathlib.Core.Bool.{true};
 ghost use Prim.Native.Nat.{_≤_, _<_, _^_};
-ghost use Rattle.rules.specs.Records.{recordCount, records};
+ghost use Rattle.rules.specs.Records.{kind, recordAt, recordCount, records};
 ghost use Rattle.rules.specs.File.{ordered};
 ghost use Rattle.graph.specs.Tails.{TailLast, NoTail};
 ghost use Rattle.graph.specs.NextEdge.{edgeFrom};
@@ -39,11 +39,11 @@ pub fn next_edge(s: &[u8], from: usize, end: usize) -> NextEdge
     NextEdge { tag: 0, behind: i }
 }
 
-// Where a block's tail of edges, edge arguments and contexts starts, from a place on and before the block's end. A place
+// Where a block's tail of edges, edge arguments and contexts starts, from a place on and before the block's end, or the end. A place
 // that is in the tail is itself the answer, so that whoever asks again behind each edge does not read the tail again.
 pub fn tail_from(s: &[u8], from: usize, end: usize) -> usize
     requires { ⌜ (from ≤ end) × (end ≤ recordCount (now s)) × (ordered 0 (records (now s)) ≡ true) × TailLast (now s) from end ⌝ }
-    ensures { λ r. ⌜ (from ≤ r) × (r ≤ end) × NoTail (now (s .entry)) from r ⌝ }
+    ensures { λ r. ⌜ (from ≤ r) × (r ≤ end) × NoTail (now (s .entry)) from r × (r < end → 7 ≤ kind (recordAt (now (s .entry)) r)) ⌝ }
 {
     if from == end {
         return end;

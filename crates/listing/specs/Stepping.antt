@@ -71,6 +71,7 @@ module _ (s : List ℕ) (end : ℕ) (k : end ≤ recordCount s) where
       ap (places (eqb 4) p) (between-more s p end l k)
       ∙ ap (λ (b : Bool). placeIf b p (headsFrom s (suc p) end)) (eqb-same 4 (kind (recordAt s p)))
 
+  -- where one opens
   heads-here : (p : ℕ) → p < end → T (opens s p) → headsFrom s p end ≡ p ∷ headsFrom s (suc p) end
   heads-here p l o = heads-more p l ∙ ap (λ (b : Bool). placeIf b p (headsFrom s (suc p) end)) (is-true (opens s p) o)
 

@@ -91,6 +91,7 @@ record Behind (s : List ℕ) (i : ℕ) : Type 0 where
   stands : T (standing flags (rest s (suc i)))
 
 module _ (s : List ℕ) (h : T (ordered 0 (records s))) (t : T (standing 2 (records s))) where
+  -- what is known of a place, from what is known of the one before,
   one-on :
       (p flags i : ℕ) → i < recordCount s → T (has p kinds) → (T (inTail p) → T (isTerminator flags))
       → T (chain p (rest s i)) → T (standing flags (rest s i)) → Behind s i
@@ -113,6 +114,7 @@ module _ (s : List ℕ) (h : T (ordered 0 (records s))) (t : T (standing 2 (reco
         stands = stand .1;
       }
 
+  -- and so of every place
   behind : (i : ℕ) → i < recordCount s → Behind s i
   behind zero l =
       one-on 0 2 0 l tt (λ tail. absurd tail) (subst (λ rs. T (chain 0 rs)) (sym (rest-all s)) (ordered-chain 0 (records s) h))

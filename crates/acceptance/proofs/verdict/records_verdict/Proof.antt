@@ -24,13 +24,13 @@ returns-2 c =
 count-kinds-requires : tie.Need-count-kinds-requires
 count-kinds-requires c κs = search needs
 
-too-many-requires : tie.Need-too-many-requires
-too-many-requires c κs = search needs
+above-largest-requires : tie.Need-above-largest-requires
+above-largest-requires c κs = search needs
 
 returns-3 : tie.Need-returns-3
 returns-3 c =
     let s = c .before .before .before .before .before .before .before .args .s .now in
-    let many = tooMany-counted s (c .before .before .count-kinds .result) (sym (c .before .before .before .before .too-long .ensures) ∙ c .before .before .before .if2 .left) (c .before .before .count-kinds .ensures) ∙ sym (c .before .too-many .ensures) ∙ c .if3 .taken in
+    let many = tooMany-counted s (c .before .before .count-kinds .result) (sym (c .before .before .before .before .too-long .ensures) ∙ c .before .before .before .if2 .left) (c .before .before .count-kinds .ensures) ∙ sym (c .before .above-largest .ensures) ∙ c .if3 .taken in
     sym (records-many s (eq-eqb _ 0 (c .before .before .before .before .before .if1 .left)) many)
 
 malformed-requires : tie.Need-malformed-requires
@@ -39,7 +39,7 @@ malformed-requires c κs = search needs
 returns-4 : tie.Need-returns-4
 returns-4 c =
     let s = c .before .before .before .before .before .before .before .before .before .args .s .now in
-    let few = tooMany-counted s (c .before .before .before .before .count-kinds .result) (sym (c .before .before .before .before .before .before .too-long .ensures) ∙ c .before .before .before .before .before .if2 .left) (c .before .before .before .before .count-kinds .ensures) ∙ sym (c .before .before .before .too-many .ensures) ∙ c .before .before .if3 .left in
+    let few = tooMany-counted s (c .before .before .before .before .count-kinds .result) (sym (c .before .before .before .before .before .before .too-long .ensures) ∙ c .before .before .before .before .before .if2 .left) (c .before .before .before .before .count-kinds .ensures) ∙ sym (c .before .before .before .above-largest .ensures) ∙ c .before .before .if3 .left in
     sym (records-malformed s (eq-eqb _ 0 (c .before .before .before .before .before .before .before .if1 .left)) few (sym (c .before .malformed .ensures) ∙ c .if4 .taken))
 
 not-in-file-requires : tie.Need-not-in-file-requires
@@ -48,13 +48,13 @@ not-in-file-requires c κs = (not-malformed (c .before .before .before .before .
 returns-5 : tie.Need-returns-5
 returns-5 c =
     let s = c .before .before .before .before .before .before .before .before .before .before .before .args .s .now in
-    let few = tooMany-counted s (c .before .before .before .before .before .before .count-kinds .result) (sym (c .before .before .before .before .before .before .before .before .too-long .ensures) ∙ c .before .before .before .before .before .before .before .if2 .left) (c .before .before .before .before .before .before .count-kinds .ensures) ∙ sym (c .before .before .before .before .before .too-many .ensures) ∙ c .before .before .before .before .if3 .left in
+    let few = tooMany-counted s (c .before .before .before .before .before .before .count-kinds .result) (sym (c .before .before .before .before .before .before .before .before .too-long .ensures) ∙ c .before .before .before .before .before .before .before .if2 .left) (c .before .before .before .before .before .before .count-kinds .ensures) ∙ sym (c .before .before .before .before .before .above-largest .ensures) ∙ c .before .before .before .before .if3 .left in
     sym (records-last s (eq-eqb _ 0 (c .before .before .before .before .before .before .before .before .before .if1 .left)) few (sym (c .before .before .before .malformed .ensures) ∙ c .before .before .if4 .left) ∙ ap (λ b. elim b as (λ _. Verdict) [ true ↦ verdict.NotInFile | false ↦ verdict.Accepted ]) (sym (c .before .not-in-file .ensures) ∙ c .if5 .taken))
 
 returns-6 : tie.Need-returns-6
 returns-6 c =
     let s = c .before .before .before .before .before .before .before .before .before .before .before .args .s .now in
-    let few = tooMany-counted s (c .before .before .before .before .before .before .count-kinds .result) (sym (c .before .before .before .before .before .before .before .before .too-long .ensures) ∙ c .before .before .before .before .before .before .before .if2 .left) (c .before .before .before .before .before .before .count-kinds .ensures) ∙ sym (c .before .before .before .before .before .too-many .ensures) ∙ c .before .before .before .before .if3 .left in
+    let few = tooMany-counted s (c .before .before .before .before .before .before .count-kinds .result) (sym (c .before .before .before .before .before .before .before .before .too-long .ensures) ∙ c .before .before .before .before .before .before .before .if2 .left) (c .before .before .before .before .before .before .count-kinds .ensures) ∙ sym (c .before .before .before .before .before .above-largest .ensures) ∙ c .before .before .before .before .if3 .left in
     sym (records-last s (eq-eqb _ 0 (c .before .before .before .before .before .before .before .before .before .if1 .left)) few (sym (c .before .before .before .malformed .ensures) ∙ c .before .before .if4 .left) ∙ ap (λ b. elim b as (λ _. Verdict) [ true ↦ verdict.NotInFile | false ↦ verdict.Accepted ]) (sym (c .before .not-in-file .ensures) ∙ c .if5 .left))
 
 pub records-verdict-spec : {M : Type 1} → statement M
@@ -65,7 +65,7 @@ records-verdict-spec =
     too-long-requires
     returns-2
     count-kinds-requires
-    too-many-requires
+    above-largest-requires
     returns-3
     malformed-requires
     returns-4

@@ -10,22 +10,22 @@ use Rattle.graph.proofs.edges.tail_from.Statement.{statement}
 use Rattle.graph.proofs.edges.tail_from.Tie as tie
 
 abbrev Inv-loop : tie.InvT-loop
-Inv-loop s from end at₀ at = (from < at) × (at ≤ end)
+Inv-loop s from end at₀ at = (from < at) × (at ≤ end) × (at < end → 7 ≤ kind (recordAt s at))
 
 abbrev μ-loop : tie.MeasureT-loop
 μ-loop s from end at₀ at = at
 
 returns : tie.Need-returns Inv-loop μ-loop
-returns c = (search needs, search needs, λ i l m. absurd (omega arith))
+returns c = (search needs, search needs, λ i l m. absurd (omega arith), λ l. absurd (omega arith))
 
 kind-at-requires : tie.Need-kind-at-requires Inv-loop μ-loop
 kind-at-requires c κs = search needs
 
 returns-2 : tie.Need-returns-2 Inv-loop μ-loop
-returns-2 c = (search needs, search needs, λ i l m. absurd (omega arith))
+returns-2 c = (search needs, search needs, λ i l m. absurd (omega arith), λ _. omega (arith, c .before .kind-at .ensures .0))
 
 loop-holds : tie.Need-loop-holds Inv-loop μ-loop
-loop-holds c = search needs
+loop-holds c = (omega arith, omega arith, λ l. absurd (omega arith))
 
 sub-kind-at : tie.Need-sub-kind-at Inv-loop μ-loop
 sub-kind-at c = search needs
@@ -49,7 +49,7 @@ loop-again c =
     c .before .before .before .before .kind-at .ensures .0 ∙ ap (λ (p : ℕ). kind (recordAt (start .args .s .now) p)) e
     ∙ sym (c .before .kind-at2 .ensures .0) in
     omega arith in
-    (omega arith, omega arith)
+    (omega arith, omega arith, λ _. omega (arith, c .before .kind-at2 .ensures .0))
 
 returns-3 : tie.Need-returns-3 Inv-loop μ-loop
 returns-3 c =
@@ -60,6 +60,7 @@ returns-3 c =
       λ i l m.
           tail-none (start .args .s .now) (start .args .from) (c .before .before .loop .at - 1) (start .args .end) (start .pre .3)
           (omega arith) (omega arith) i l (omega arith),
+      c .before .before .loop .inv .2,
     )
 
 pub tail-from-spec : {M : Type 1} → statement M

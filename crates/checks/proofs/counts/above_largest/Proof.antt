@@ -1,7 +1,7 @@
--- `checks::counts::too_many` meets its contract.
+-- `checks::counts::above_largest` meets its contract.
 use borrow.Author.Tests.{lt-ltb, le-ltb}
-use Rattle.checks.proofs.counts.too_many.Statement.{statement}
-use Rattle.checks.proofs.counts.too_many.Tie as tie
+use Rattle.checks.proofs.counts.above_largest.Statement.{statement}
+use Rattle.checks.proofs.counts.above_largest.Tie as tie
 
 returns : tie.Need-returns
 returns c = simp (lt-ltb 512 (c .before .before .args .of .values) (c .if1 .taken))
@@ -15,5 +15,5 @@ returns-3 c = let of = c .before .before .before .before .before .before .args .
 returns-4 : tie.Need-returns-4
 returns-4 c = let of = c .before .before .before .before .before .before .before .args .of in simp (le-ltb 512 (of .values) (c .before .before .before .before .before .if1 .left), le-ltb 64 (of .blocks) (c .before .before .before .if2 .left), le-ltb 1024 (of .instructions) (c .before .if3 .left))
 
-pub too-many-spec : {M : Type 1} → statement M
-too-many-spec = tie.close (tie.spec returns returns-2 returns-3 returns-4)
+pub above-largest-spec : {M : Type 1} → statement M
+above-largest-spec = tie.close (tie.spec returns returns-2 returns-3 returns-4)
