@@ -1,4 +1,5 @@
 pub mod BlockRuns
+pub mod Stepped
 pub mod Copied
 pub mod Numbered
 pub mod Planned

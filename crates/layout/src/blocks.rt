@@ -16,6 +16,7 @@ ghost use Rattle.writing.specs.Parts.{Readable};
 ghost use Rattle.writing.specs.Places.{fromTo};
 ghost use Rattle.writing.specs.Wrote.{room, Wrote};
 ghost use Rattle.layout.specs.BlockRuns.{numberAt, instructionIf, instructionPartAt, landingPartAt, headRun, blockRun, copyAt};
+ghost use Rattle.layout.specs.Stepped.{InstructionsFrom};
 use records::in_order::kind_at;
 use writing::parts::Part;
 use writing::put::put_copy;
@@ -71,7 +72,7 @@ fn put_instructions(
     end: usize,
     out: &mut [u8],
 ) -> usize
-    requires { ⌜ Readable (now s) (now numbers) × (from ≤ end) × (end ≤ recordCount (now s)) × (rowWords * numberAt (now s) end ≤ length (now lists)) × (values ≤ rowValues) × (first ≡ numberAt (now s) from) × (room (fromTo (instructionPartAt (now s) (now numbers) (now slots) values (rows (now lists)) end) from end) ≤ length (now out)) × BlockRecords (now s) from end ⌝ }
+    requires { ⌜ Readable (now s) (now numbers) × (from ≤ end) × (end ≤ recordCount (now s)) × (rowWords * numberAt (now s) end ≤ length (now lists)) × (values ≤ rowValues) × (first ≡ numberAt (now s) from) × (room (fromTo (instructionPartAt (now s) (now numbers) (now slots) values (rows (now lists)) end) from end) ≤ length (now out)) × InstructionsFrom (now s) from end ⌝ }
     ensures { λ r. ⌜ Wrote (now (out .entry)) (fromTo (instructionPartAt (now (s .entry)) (now (numbers .entry)) (now (slots .entry)) values (rows (now (lists .entry))) end) from end) r (now (out .exit)) ⌝ }
 {
     let mut at = 0;
@@ -124,7 +125,7 @@ fn put_landings(
     end: usize,
     out: &mut [u8],
 ) -> usize
-    requires { ⌜ Readable (now s) (now numbers) × (from ≤ end) × (end ≤ recordCount (now s)) × (room (fromTo (landingPartAt (now s) (now numbers) (now slots) end) from end) ≤ length (now out)) ⌝ }
+    requires { ⌜ Readable (now s) (now numbers) × (from ≤ end) × (end ≤ recordCount (now s)) × (room (fromTo (landingPartAt (now s) (now numbers) (now slots) end) from end) ≤ length (now out)) × InstructionsFrom (now s) from end ⌝ }
     ensures { λ r. ⌜ Wrote (now (out .entry)) (fromTo (landingPartAt (now (s .entry)) (now (numbers .entry)) (now (slots .entry)) end) from end) r (now (out .exit)) ⌝ }
 {
     let mut at = 0;
@@ -174,8 +175,8 @@ pub fn put_block(
     requires { ⌜ Readable (now s) (now numbers) × (p < end) × (end ≤ recordCount (now s)) × (rowWords * numberAt (now s) end ≤ length (now lists)) × (values ≤ rowValues) × (first ≡ numberAt (now s) (p + 1)) × (room (blockRun (now s) (now numbers) (now slots) values (rows (now lists)) p end) ≤ length (now out)) × BlockRecords (now s) (p + 1) end ⌝ }
     ensures { λ r. ⌜ Wrote (now (out .entry)) (blockRun (now (s .entry)) (now (numbers .entry)) (now (slots .entry)) values (rows (now (lists .entry))) p end) r (now (out .exit)) ⌝ }
 {
-    let from = p + 1;
-    let a = put_head(s, numbers, slots, p, end, out);
+    let front = next_place(s, 4, p + 1, end);
+    let a = put_head(s, numbers, slots, p, front, out);
     let b = put_instructions(
         s,
         numbers,
@@ -183,12 +184,12 @@ pub fn put_block(
         lists,
         values,
         first,
-        from,
+        front,
         end,
         &mut out[a..],
     );
     let ab = a + b;
-    let c = put_landings(s, numbers, slots, from, end, &mut out[ab..]);
+    let c = put_landings(s, numbers, slots, front, end, &mut out[ab..]);
     ab + c
 }
 

@@ -49,7 +49,7 @@ module _ (s numbers slots : List ℕ) where
     instructionIn p a b q = (loadsIn (p + 1) a b q ++ itselfIn p a b q) ++ partsRun s numbers slots 5 part.Store a b
 
 -- what stands between two places, by the kinds there
-kind-between :
+pub kind-between :
     (s : List ℕ) (is : ℕ → Bool) (p q : ℕ) → q ≤ recordCount s → Kinds is (between s p q) → (i : ℕ) → p ≤ i → i < q → T (is (kind (recordAt s i)))
 kind-between s is p q m kinds i l u =
     let there = all-apart (λ r. is (kind r)) (between s p i) (between s i q) (subst (Kinds is) (between-parted s (i - p) p i q (omega arith) (omega arith) m) kinds) .1 in
@@ -89,7 +89,7 @@ module _ (s : List ℕ) (start end a b : ℕ) (x : Parted s start end a b) (g : 
       behind-arguments no-argument ∙ passed-before g a b end (x .middle) (x .high) (none-of 5 a b no-result (inside .2) (x .results))
 
 module _ (s numbers slots : List ℕ) where
-  part-only : (k : ℕ) (y : Part) (i : ℕ) → T (not (eqb (kind (recordAt s i)) k)) → partAt s numbers slots k y i ≡ []
+  pub part-only : (k : ℕ) (y : Part) (i : ℕ) → T (not (eqb (kind (recordAt s i)) k)) → partAt s numbers slots k y i ≡ []
   part-only k y i = left-out (eqb (kind (recordAt s i)) k) (partRecords (sizeOf (functionIn s)) (slotIn slots) y (encode (recordAt s i)) (madeAt s numbers i)) []
 
   edge-only : (y : EdgePart) (q i : ℕ) → T (not (eqb (kind (recordAt s i)) 7)) → edgePartAt s numbers slots y q i ≡ []

@@ -1,6 +1,6 @@
 -- `layout::blocks::put_instructions` meets its contract.
 use borrow.Author.Needs.{needs}
-use Rattle.layout.specs.BlockRuns.{numberAt, instructionIf, instructionPartAt, instruction-next, number-less}
+use Rattle.layout.specs.BlockRuns.{numberAt, instructionIf, instructionPartAt, number-less}
 use Rattle.writing.specs.Places.{fromTo, wrote-start, wrote-turn, turn-room}
 use Rattle.writing.specs.Wrote.{Wrote, lent-room}
 use Rattle.rows.specs.Rows.{rows}
@@ -37,7 +37,7 @@ put-instruction-at-requires : tie.Need-put-instruction-at-requires Inv-loop μ-l
 put-instruction-at-requires c κs =
     let g = instructionPartAt (c .before .before .before .before .before .before .before .before .args .s .now) (c .before .before .before .before .before .before .before .before .args .numbers .now) (c .before .before .before .before .before .before .before .before .args .slots .now) (c .before .before .before .before .before .before .before .before .args .values) (rows (c .before .before .before .before .before .before .before .before .args .lists .now)) (c .before .before .before .before .before .before .before .before .args .end) in
     let fits = turn-room g (c .before .before .before .before .before .before .before .before .args .from) (c .before .before .loop .p) (c .before .before .loop .inv .0) (c .before .before .before .before .before .before .before .before .args .end) (c .before .loop-test .taken) (c .before .before .before .before .before .before .before .before .pre .6) (c .before .before .loop .inv .3) in
-    (c .before .before .before .before .before .before .before .before .pre .0, c .before .loop-test .taken, c .before .before .before .before .before .before .before .before .pre .2, (λ e. let l = number-less (c .before .before .before .before .before .before .before .before .args .s .now) (c .before .before .loop .p) (c .before .before .before .before .before .before .before .before .args .end) (c .before .loop-test .taken) e in omega (arith, l, c .before .before .loop .inv .2, c .before .before .before .before .before .before .before .before .pre .3)), c .before .before .before .before .before .before .before .before .pre .4, lent-room (c .before .before .loop .out) (c .before .before .loop .at) (instructionIf (c .before .before .before .before .before .before .before .before .args .s .now) (c .before .before .before .before .before .before .before .before .args .numbers .now) (c .before .before .before .before .before .before .before .before .args .slots .now) (c .before .before .before .before .before .before .before .before .args .values) (rows (c .before .before .before .before .before .before .before .before .args .lists .now) (c .before .before .loop .number)) (c .before .before .before .before .before .before .before .before .args .end) (c .before .before .loop .p)) (g (c .before .before .loop .p)) (ap (λ j. instructionIf (c .before .before .before .before .before .before .before .before .args .s .now) (c .before .before .before .before .before .before .before .before .args .numbers .now) (c .before .before .before .before .before .before .before .before .args .slots .now) (c .before .before .before .before .before .before .before .before .args .values) (rows (c .before .before .before .before .before .before .before .before .args .lists .now) j) (c .before .before .before .before .before .before .before .before .args .end) (c .before .before .loop .p)) (c .before .before .loop .inv .2)) fits, instruction-next (c .before .before .before .before .before .before .before .before .args .s .now) (c .before .before .before .before .before .before .before .before .args .from) (c .before .before .before .before .before .before .before .before .args .end) (c .before .before .before .before .before .before .before .before .pre .7) (c .before .before .loop .p) (c .before .before .loop .inv .0) (c .before .loop-test .taken))
+    (c .before .before .before .before .before .before .before .before .pre .0, c .before .loop-test .taken, c .before .before .before .before .before .before .before .before .pre .2, (λ e. let l = number-less (c .before .before .before .before .before .before .before .before .args .s .now) (c .before .before .loop .p) (c .before .before .before .before .before .before .before .before .args .end) (c .before .loop-test .taken) e in omega (arith, l, c .before .before .loop .inv .2, c .before .before .before .before .before .before .before .before .pre .3)), c .before .before .before .before .before .before .before .before .pre .4, lent-room (c .before .before .loop .out) (c .before .before .loop .at) (instructionIf (c .before .before .before .before .before .before .before .before .args .s .now) (c .before .before .before .before .before .before .before .before .args .numbers .now) (c .before .before .before .before .before .before .before .before .args .slots .now) (c .before .before .before .before .before .before .before .before .args .values) (rows (c .before .before .before .before .before .before .before .before .args .lists .now) (c .before .before .loop .number)) (c .before .before .before .before .before .before .before .before .args .end) (c .before .before .loop .p)) (g (c .before .before .loop .p)) (ap (λ j. instructionIf (c .before .before .before .before .before .before .before .before .args .s .now) (c .before .before .before .before .before .before .before .before .args .numbers .now) (c .before .before .before .before .before .before .before .before .args .slots .now) (c .before .before .before .before .before .before .before .before .args .values) (rows (c .before .before .before .before .before .before .before .before .args .lists .now) j) (c .before .before .before .before .before .before .before .before .args .end) (c .before .before .loop .p)) (c .before .before .loop .inv .2)) fits, c .before .before .before .before .before .before .before .before .pre .7 .inOrder (c .before .before .loop .p) (c .before .before .loop .inv .0) (c .before .loop-test .taken))
 
 add-at : tie.Need-add-at Inv-loop μ-loop
 add-at c =
