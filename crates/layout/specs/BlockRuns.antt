@@ -60,9 +60,13 @@ instruction-next s start end h p l m four =
     (instruction-at s end (h .inside) start h p l m (eq→eqb four))
 
 module _ (s numbers slots : List ℕ) where
+  -- the landings of the instruction at place p, which ends before place q
+  abbrev pub landingsRun : ℕ → ℕ → List Record
+  landingsRun p q = edgesRun s numbers slots edge.Landing (p + 1) q
+
   -- the landings of the instruction at a place, among records that end before place q
   unfoldable pub landingPartAt : ℕ → ℕ → List Record
-  landingPartAt q = onKind s 4 (λ p. edgesRun s numbers slots edge.Landing (p + 1) (nextPlace s 4 (p + 1) q))
+  landingPartAt q = onKind s 4 (λ p. landingsRun p (nextPlace s 4 (p + 1) q))
 
   -- the record of the block at place p, its parameters and their stores
   abbrev pub headRun : ℕ → ℕ → List Record
@@ -97,15 +101,14 @@ module _ (s numbers slots : List ℕ) where
 
   pub landings-here :
       (p q next : ℕ) → kind (recordAt s p) ≡ 4 → next ≡ nextPlace s 4 (p + 1) q
-      → landingPartAt q p ≡ edgesRun s numbers slots edge.Landing (p + 1) next
+      → landingPartAt q p ≡ landingsRun p next
   unfolding landingPartAt
   landings-here p q next e n =
-      on-kind s 4 (λ i. edgesRun s numbers slots edge.Landing (i + 1) (nextPlace s 4 (i + 1) q)) p e
-      ∙ ap (edgesRun s numbers slots edge.Landing (p + 1)) (sym n)
+      on-kind s 4 (λ i. landingsRun i (nextPlace s 4 (i + 1) q)) p e ∙ ap (landingsRun p) (sym n)
 
   pub landings-other : (p q : ℕ) → (kind (recordAt s p) ≡ 4 → ⊥) → landingPartAt q p ≡ []
   unfolding landingPartAt
-  landings-other p q h = off-kind s 4 (λ i. edgesRun s numbers slots edge.Landing (i + 1) (nextPlace s 4 (i + 1) q)) p h
+  landings-other p q h = off-kind s 4 (λ i. landingsRun i (nextPlace s 4 (i + 1) q)) p h
 
 -- the number grows, by one at most a record
 step-bounds : (s : List ℕ) (p : ℕ) → (numberAt s p ≤ numberAt s (suc p)) × (numberAt s (suc p) ≤ suc (numberAt s p))

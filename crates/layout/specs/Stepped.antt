@@ -4,6 +4,7 @@ use mathlib.Core.Path.{_≡_, refl, sym, ap, subst, _∙_}
 use mathlib.Core.Bool.{Bool, true, false, not}
 use mathlib.Core.List.{List, [], _∷_, _++_}
 use native.Mathlib.Omega.{arith}
+use lib.ListN.{length, take, drop}
 use lib.Dec.{T, eqb, eqb→eq}
 use Rattle.rules.specs.Lists.{NumberSet}
 use Rattle.rules.specs.Records.{kind, recordAt, recordCount}
@@ -19,11 +20,12 @@ use Rattle.writing.specs.declared.parts.Part.{Part}
 use Rattle.writing.specs.declared.parts.Part.the-variants as part
 use Rattle.writing.specs.Next.{nextPlace, nextPlace-none, nextPlace-here, nextPlace-later, nextPlace-bounds}
 use Rattle.writing.specs.Parts.{partAt}
-use Rattle.writing.specs.Places.{fromTo}
+use Rattle.writing.specs.Places.{fromTo, wrote-turn}
+use Rattle.writing.specs.Wrote.{Wrote, wrote-as}
 use Rattle.writing_instructions.specs.Narrowed.{kind-between, part-only}
 use Rattle.writing_instructions.specs.Passed.{passed-before, passed-behind}
-use Rattle.writing_instructions.specs.Runs.{partsRun}
-use Rattle.layout.specs.BlockRuns.{numberAt, number-same, instruction-next, instructionPartAt, instruction-other, landingPartAt, landings-other, headRun, blockRun}
+use Rattle.writing_instructions.specs.Runs.{partsRun, instructionRun}
+use Rattle.layout.specs.BlockRuns.{numberAt, number-more, number-same, instruction-next, instructionPartAt, instruction-here, instruction-other, landingsRun, landingPartAt, landings-here, landings-other, headRun, blockRun}
 
 -- an instruction starts at a place, unless that is the end, and each one from there on, up to the next, is in order
 pub record InstructionsFrom (s : List ℕ) (from end : ℕ) : Type 0 where
@@ -85,6 +87,43 @@ number-next s p q l m =
     let low = nextPlace-bounds s 4 p q l m .0 in
     number-stays s (nextPlace s 4 p q - p) p (nextPlace s 4 p q) (omega arith) (next-found s 4 q m p l .1)
 
+-- A TURN of a loop from the instruction at place p to the next one
+module _ (s : List ℕ) (end : ℕ) (m : end ≤ recordCount s) (p : ℕ) (l : p < end) (next : ℕ) (there : next ≡ nextPlace s 4 (p + 1) end) where
+  pub next-place : (p < next) × (next ≤ end) × (next < end → kind (recordAt s next) ≡ 4)
+  next-place =
+      let after : p + 1 ≤ end = omega arith in
+      let within = nextPlace-bounds s 4 (p + 1) end after m in (
+        omega (arith, within .0, there),
+        omega (arith, within .1, there),
+        subst (λ (n : ℕ). n < end → kind (recordAt s n) ≡ 4) (sym there) (next-found s 4 end m (p + 1) after .0),
+      )
+
+  pub next-number : kind (recordAt s p) ≡ 4 → (number : ℕ) → number ≡ numberAt s p → number + 1 ≡ numberAt s next
+  next-number four number same =
+      let after : p + 1 ≤ end = omega arith in
+      omega (arith, same, number-more s p four, number-next s (p + 1) end after m, ap (numberAt s) there)
+
+  pub next-turn :
+      (g : ℕ → List Record) → ((i : ℕ) → (kind (recordAt s i) ≡ 4 → ⊥) → g i ≡ []) → (from : ℕ) → from ≤ p
+      → {e : List ℕ} {at : ℕ} {x : List ℕ} {r : ℕ} {y : List ℕ} (rs : List Record) → rs ≡ g p → Wrote e (fromTo g from p) at x → at ≤ length x
+      → Wrote (take (length x - at) (drop at x)) rs r y
+      → Wrote e (fromTo g from next) (at + r) (take at x ++ (y ++ drop (length x - at) (drop at x)))
+  next-turn g only from low rs same w u v =
+      wrote-as (fromTo g from (p + 1)) (fromTo g from next) (sym (ap (fromTo g from) there ∙ up-to-next s g only end m from p low l))
+      (wrote-turn g from p low rs same w u v)
+
+  -- what it writes
+  module _ (numbers slots : List ℕ) (four : kind (recordAt s p) ≡ 4) where
+    pub instruction-turn :
+        (values : ℕ) (sets : ℕ → NumberSet) (number : ℕ) → number ≡ numberAt s p
+        → instructionRun s numbers slots (sets number) values p next ≡ instructionPartAt s numbers slots values sets end p
+    instruction-turn values sets number same =
+        ap (λ (n : ℕ). instructionRun s numbers slots (sets n) values p next) same
+        ∙ sym (instruction-here s numbers slots values (sets (numberAt s p)) p end next four there)
+
+    pub landings-turn : landingsRun s numbers slots p next ≡ landingPartAt s numbers slots end p
+    landings-turn = sym (landings-here s numbers slots p end next four there)
+
 -- A BLOCK'S FIRST INSTRUCTION
 module _ (s : List ℕ) (start end : ℕ) (h : BlockRecords s start end) where
   abbrev first : ℕ
@@ -130,13 +169,14 @@ module _ (s numbers slots : List ℕ) (values : ℕ) (sets : ℕ → NumberSet) 
   blockByFirst p front q =
       (headRun s numbers slots p front ++ fromTo (instructionPartAt s numbers slots values sets q) front q) ++ fromTo (landingPartAt s numbers slots q) front q
 
+  pub instructions-only : (q i : ℕ) → (kind (recordAt s i) ≡ 4 → ⊥) → instructionPartAt s numbers slots values sets q i ≡ []
+  instructions-only q i other = instruction-other s numbers slots values (sets (numberAt s i)) i q other
+
   pub block-by-first :
       (p front q : ℕ) → BlockRecords s (p + 1) q → front ≡ nextPlace s 4 (p + 1) q → blockRun s numbers slots values sets p q ≡ blockByFirst p front q
   unfolding blockRun
   block-by-first p front q h there =
-      let only : (i : ℕ) → (kind (recordAt s i) ≡ 4 → ⊥) → instructionPartAt s numbers slots values sets q i ≡ [] =
-      λ i other. instruction-other s numbers slots values (sets (numberAt s i)) i q other in
-      let instructions = from-first s (instructionPartAt s numbers slots values sets q) only q (h .inside) (p + 1) (h .ascends) in
+      let instructions = from-first s (instructionPartAt s numbers slots values sets q) (instructions-only q) q (h .inside) (p + 1) (h .ascends) in
       let landings = from-first s (landingPartAt s numbers slots q) (λ i other. landings-other s numbers slots i q other) q (h .inside) (p + 1) (h .ascends) in
       let same : blockRun s numbers slots values sets p q ≡ blockByFirst p (nextPlace s 4 (p + 1) q) q = λ j. (head-before s numbers slots p q h j ++ instructions j) ++ landings j in
       same ∙ ap (λ (n : ℕ). blockByFirst p n q) (sym there)

@@ -5,17 +5,16 @@ ghost use Prim.Native.Nat.{_+_, _*_, _<_, _≤_};
 ghost use lib.ListN.{length};
 ghost use lib.Dec.{T};
 ghost use Rattle.rules.specs.Limits.{rowWords};
-ghost use Rattle.rules.specs.Records.{kind, recordAt, recordCount, records};
+ghost use Rattle.rules.specs.Records.{recordCount, records};
 ghost use Rattle.rules.specs.File.{ordered};
 ghost use Rattle.records.specs.Parts.{isInstruction};
-ghost use Rattle.rows.specs.Rows.{rows, rowValues, HasRow};
+ghost use Rattle.rows.specs.Rows.{rows, rowValues};
 ghost use Rattle.listing.specs.Across.{sectionAt};
 ghost use Rattle.listing.specs.Stepping.{BlockRecords};
-ghost use Rattle.writing.specs.Next.{nextPlace};
 ghost use Rattle.writing.specs.Parts.{Readable};
 ghost use Rattle.writing.specs.Places.{fromTo};
 ghost use Rattle.writing.specs.Wrote.{room, Wrote};
-ghost use Rattle.layout.specs.BlockRuns.{numberAt, instructionIf, instructionPartAt, landingPartAt, headRun, blockRun, copyAt};
+ghost use Rattle.layout.specs.BlockRuns.{numberAt, instructionPartAt, landingsRun, landingPartAt, headRun, blockRun, copyAt};
 ghost use Rattle.layout.specs.Stepped.{InstructionsFrom};
 use records::in_order::kind_at;
 use writing::parts::Part;
@@ -25,40 +24,6 @@ use writing::run::put_parts;
 use writing_edges::edges::EdgePart;
 use writing_edges::edges::put_edges;
 use writing_instructions::instructions::put_instruction;
-
-// What is written for the record at place p, if it starts an instruction, among records that end before place end; the
-// instruction's list is row i.
-fn put_instruction_at(
-    s: &[u8],
-    numbers: &[u32],
-    slots: &[u32],
-    lists: &[u64],
-    values: usize,
-    i: usize,
-    p: usize,
-    end: usize,
-    out: &mut [u8],
-) -> usize
-    requires { ⌜ Readable (now s) (now numbers) × (p < end) × (end ≤ recordCount (now s)) × (kind (recordAt (now s) p) ≡ 4 → HasRow (now lists) i) × (values ≤ rowValues) × (room (instructionIf (now s) (now numbers) (now slots) values (rows (now lists) i) end p) ≤ length (now out)) × (kind (recordAt (now s) p) ≡ 4 → T (isInstruction (sectionAt (now s) p (nextPlace (now s) 4 (p + 1) end)))) ⌝ }
-    ensures { λ r. ⌜ Wrote (now (out .entry)) (instructionIf (now (s .entry)) (now (numbers .entry)) (now (slots .entry)) values (rows (now (lists .entry)) i) end p) r (now (out .exit)) ⌝ }
-{
-    if kind_at(s, p) == 4 {
-        let next = next_place(s, 4, p + 1, end);
-        return put_instruction(s, numbers, slots, lists, values, i, p, next, out);
-    }
-    0
-}
-
-// The number of the instruction at or behind the next place, from that at or behind place p.
-fn number_behind(s: &[u8], p: usize, number: usize) -> usize
-    requires { ⌜ (p < recordCount (now s)) × (number ≡ numberAt (now s) p) × (ordered 0 (records (now s)) ≡ true) ⌝ }
-    ensures { λ r. ⌜ r ≡ numberAt (now (s .entry)) (p + 1) ⌝ }
-{
-    if kind_at(s, p) == 4 {
-        return number + 1;
-    }
-    number
-}
 
 // The instructions from a place on and before place end, the first one first; the number of the first one is given.
 fn put_instructions(
@@ -79,7 +44,8 @@ fn put_instructions(
     let mut number = first;
     let mut p = from;
     while p < end {
-        let n = put_instruction_at(
+        let next = next_place(s, 4, p + 1, end);
+        let n = put_instruction(
             s,
             numbers,
             slots,
@@ -87,33 +53,33 @@ fn put_instructions(
             values,
             number,
             p,
-            end,
+            next,
             &mut out[at..],
         );
         at += n;
-        number = number_behind(s, p, number);
-        p += 1;
+        number += 1;
+        p = next;
     }
     at
 }
 
-// The landings of the record at place p, if it starts an instruction, among records that end before place end.
-fn put_landings_at(
+// The landings of the instruction at place p, which ends before place next. Edges and contexts stand last in it, so by its
+// last record most instructions have none.
+fn put_landings_of(
     s: &[u8],
     numbers: &[u32],
     slots: &[u32],
     p: usize,
-    end: usize,
+    next: usize,
     out: &mut [u8],
 ) -> usize
-    requires { ⌜ Readable (now s) (now numbers) × (p < end) × (end ≤ recordCount (now s)) × (room (landingPartAt (now s) (now numbers) (now slots) end p) ≤ length (now out)) ⌝ }
-    ensures { λ r. ⌜ Wrote (now (out .entry)) (landingPartAt (now (s .entry)) (now (numbers .entry)) (now (slots .entry)) end p) r (now (out .exit)) ⌝ }
+    requires { ⌜ Readable (now s) (now numbers) × (p < next) × (next ≤ recordCount (now s)) × (room (landingsRun (now s) (now numbers) (now slots) p next) ≤ length (now out)) × T (isInstruction (sectionAt (now s) p next)) ⌝ }
+    ensures { λ r. ⌜ Wrote (now (out .entry)) (landingsRun (now (s .entry)) (now (numbers .entry)) (now (slots .entry)) p next) r (now (out .exit)) ⌝ }
 {
-    if kind_at(s, p) == 4 {
-        let next = next_place(s, 4, p + 1, end);
-        return put_edges(s, numbers, slots, EdgePart::Landing, p + 1, next, out);
+    if kind_at(s, next - 1) < 7 {
+        return 0;
     }
-    0
+    put_edges(s, numbers, slots, EdgePart::Landing, p + 1, next, out)
 }
 
 // The landings of the instructions from a place on and before place end.
@@ -131,9 +97,10 @@ fn put_landings(
     let mut at = 0;
     let mut p = from;
     while p < end {
-        let n = put_landings_at(s, numbers, slots, p, end, &mut out[at..]);
+        let next = next_place(s, 4, p + 1, end);
+        let n = put_landings_of(s, numbers, slots, p, next, &mut out[at..]);
         at += n;
-        p += 1;
+        p = next;
     }
     at
 }

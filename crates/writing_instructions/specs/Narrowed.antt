@@ -5,16 +5,17 @@ use mathlib.Core.Bool.{Bool, not}
 use mathlib.Core.List.{List, [], _∷_, _++_}
 use native.Mathlib.Omega.{arith}
 use native.Mathlib.Numerals.{add-one}
-use lib.Dec.{T, eqb, eqb→eq}
-use Rattle.rules.specs.Lists.{all, NumberSet}
+use lib.Dec.{T, eqb, eqb→eq, leb, leb→le}
+use Rattle.rules.specs.Lists.{all, has, NumberSet, nothing}
 use Rattle.rules.specs.Records.{kind, encode, recordAt, recordCount}
-use Rattle.rules.specs.File.{functionIn}
+use Rattle.rules.specs.File.{followers, functionIn}
 use Rattle.rules.specs.Graph.{sizeOf}
 use Rattle.rules.specs.declared.Record.{Record}
-use Rattle.lists.specs.Tests.{and-left, left-out}
+use Rattle.lists.specs.Tests.{and-left, left-out, passes-at}
 use Rattle.lists.specs.Maps.{all-apart}
 use Rattle.records.specs.Kinds.{Kinds, kinds-weaken}
-use Rattle.records.specs.Parts.{isInstruction}
+use Rattle.records.specs.InOrder.{keptBy, chain-good}
+use Rattle.records.specs.Parts.{isInstruction, inBody, body-chained, body-allowed}
 use Rattle.graph.specs.Between.{between, between-more}
 use Rattle.listing.specs.Across.{sectionAt, between-parted}
 use Rattle.listing.specs.Parted.{runEnd, Parted, kinds-none, parted-by}
@@ -22,7 +23,7 @@ use Rattle.numbering.specs.Beside.{madeAt}
 use Rattle.writing.specs.declared.parts.Part.{Part}
 use Rattle.writing.specs.declared.parts.Part.the-variants as part
 use Rattle.writing.specs.Parts.{slotIn, partAt, partRecords}
-use Rattle.writing.specs.Places.{fromTo}
+use Rattle.writing.specs.Places.{fromTo, fromTo-none}
 use Rattle.writing_edges.specs.declared.edges.EdgePart.{EdgePart}
 use Rattle.writing_edges.specs.declared.edges.EdgePart.the-variants as edge
 use Rattle.writing_edges.specs.Edges.{edgePartAt, edge-other}
@@ -126,3 +127,35 @@ module _ (s : List ℕ) (p q : ℕ) (l : p < q) (m : q ≤ recordCount s) (h : T
   pub instruction-narrowed :
       (numbers slots : List ℕ) (set : NumberSet) (values : ℕ) → instructionRun s numbers slots set values p q ≡ instructionIn s numbers slots set values p a b q
   instruction-narrowed numbers slots set values = runs-same s numbers slots set values p q a b runs-parted
+
+  in-body : Kinds (λ j. has j (5 ∷ 6 ∷ 7 ∷ 8 ∷ 9 ∷ [])) (between s (p + 1) q)
+  unfolding keptBy followers
+  in-body =
+      subst (λ (n : ℕ). Kinds (λ j. has j (5 ∷ 6 ∷ 7 ∷ 8 ∷ 9 ∷ [])) (between s n q)) (sym (add-one p))
+      (chain-good (4 ∷ 5 ∷ 6 ∷ 7 ∷ 8 ∷ 9 ∷ []) inBody (λ j. has j (5 ∷ 6 ∷ 7 ∷ 8 ∷ 9 ∷ [])) tt 4 (sectionAt s p q .body) tt
+      (body-chained (sectionAt s p q) h) (body-allowed (sectionAt s p q) h))
+
+  -- what stands behind the results goes to the end
+  exit-last : kind (recordAt s (q - 1)) < 7 → b < q → ⊥
+  exit-last below l =
+      let x = runs-parted in
+      let j = kind (recordAt s (q - 1)) in
+      let inside = kind-between s (λ i. has i (5 ∷ 6 ∷ 7 ∷ 8 ∷ 9 ∷ [])) (p + 1) q m in-body (q - 1) (omega (arith, x .low, x .middle)) (omega arith) in
+      let no-argument = kind-between s (λ i. not (eqb i 6)) a q m (kinds-none 6 (between s a q) (x .noArguments)) (q - 1) (omega (arith, x .middle)) (omega arith) in
+      let no-result = kind-between s (λ i. not (eqb i 5)) b q m (kinds-none 5 (between s b q) (x .noResults)) (q - 1) (omega arith) (omega arith) in
+      let five : 5 ≤ j = leb→le 5 j (passes-at (leb 5) (5 ∷ 6 ∷ 7 ∷ 8 ∷ 9 ∷ []) tt j inside) in
+      let not-six : j ≡ 6 → ⊥ = λ e. subst (λ (n : ℕ). T (not (eqb n 6))) e no-argument in
+      let not-five : j ≡ 5 → ⊥ = λ e. subst (λ (n : ℕ). T (not (eqb n 5))) e no-result in
+      omega (arith, below, five, not-six, not-five)
+
+-- where its last record is of no edge and no context, it has no edge
+pub edges-none :
+    (s numbers slots : List ℕ) (y : EdgePart) (p q : ℕ) → p < q → q ≤ recordCount s → T (isInstruction (sectionAt s p q)) → kind (recordAt s (q - 1)) < 7
+    → edgesRun s numbers slots y (p + 1) q ≡ []
+edges-none s numbers slots y p q l m h below =
+    let a = runEnd s 6 (p + 1) q in
+    let b = runEnd s 5 a q in
+    let x = runs-parted s p q l m h a b refl refl in
+    let all-passed : b ≡ q = omega (arith, x .high, exit-last s p q l m h a b refl refl below) in
+    edge-run s numbers slots nothing 0 p q a b x y
+    ∙ ap (λ (n : ℕ). fromTo (edgePartAt s numbers slots y q) n q) all-passed ∙ fromTo-none (edgePartAt s numbers slots y q) q

@@ -1,58 +1,74 @@
 -- `layout::blocks::put_landings` meets its contract.
 use borrow.Author.Needs.{needs}
-use Rattle.layout.specs.BlockRuns.{landingPartAt}
-use Rattle.writing.specs.Places.{fromTo, wrote-start, wrote-turn, turn-room}
-use Rattle.writing.specs.Wrote.{Wrote, lent-room}
-use Prim.Native.Nat.{_-_, _≤_}
+use mathlib.Core.Path.{_≡_, sym, ap, subst}
 use native.Mathlib.Omega.{arith}
-use mathlib.Core.Path.{_≡_, refl}
+use lib.ListN.{length}
+use lib.Dec.{T}
+use Prim.Native.Nat.{_-_, _≤_, _<_}
+use Rattle.rules.specs.Records.{kind, recordAt}
+use Rattle.listing.specs.Across.{sectionAt}
+use Rattle.records.specs.Parts.{isInstruction}
+use Rattle.writing.specs.Wrote.{Wrote, lent-room}
+use Rattle.writing.specs.Places.{fromTo, wrote-start, turn-room}
+use Rattle.layout.specs.Stepped.{next-place, next-turn, landings-turn}
+use Rattle.layout.specs.BlockRuns.{landingsRun, landingPartAt, landings-other}
 use Rattle.layout.proofs.blocks.put_landings.Statement.{statement}
 use Rattle.layout.proofs.blocks.put_landings.Tie as tie
 
 abbrev Inv-loop : tie.InvT-loop
-Inv-loop s numbers slots from end out₀ at₀ p₀ out at p = (from ≤ p) × (p ≤ end) × Wrote out₀ (fromTo (landingPartAt s numbers slots end) from p) at out
+Inv-loop s numbers slots from end out₀ at₀ p₀ out at p = (from ≤ p) × (p ≤ end) × Wrote out₀ (fromTo (landingPartAt s numbers slots end) from p) at out × (p < end → kind (recordAt s p) ≡ 4)
 
 abbrev μ-loop : tie.MeasureT-loop
 μ-loop s numbers slots from end out₀ at₀ p₀ out at p = end - p
 
 loop-holds : tie.Need-loop-holds Inv-loop μ-loop
-loop-holds c = (search needs, search needs, wrote-start _ _ _)
+loop-holds c = (search needs, search needs, wrote-start _ _ _, c .before .before .before .before .pre .4 .starts)
 
-sub-put-landings-at : tie.Need-sub-put-landings-at Inv-loop μ-loop
-sub-put-landings-at c =
-    let g = landingPartAt (c .before .before .before .before .before .before .args .s .now) (c .before .before .before .before .before .before .args .numbers .now) (c .before .before .before .before .before .before .args .slots .now) (c .before .before .before .before .before .before .args .end) in
-    let fits = turn-room g (c .before .before .before .before .before .before .args .from) (c .before .loop .p) (c .before .loop .inv .0) (c .before .before .before .before .before .before .args .end) (c .loop-test .taken) (c .before .before .before .before .before .before .pre .3) (c .before .loop .inv .2) in omega arith
+add-next-place : tie.Need-add-next-place Inv-loop μ-loop
+add-next-place c = search needs
 
-part-put-landings-at-start : tie.Need-part-put-landings-at-start Inv-loop μ-loop
-part-put-landings-at-start c =
-    let g = landingPartAt (c .before .before .before .before .before .before .args .s .now) (c .before .before .before .before .before .before .args .numbers .now) (c .before .before .before .before .before .before .args .slots .now) (c .before .before .before .before .before .before .args .end) in
-    let fits = turn-room g (c .before .before .before .before .before .before .args .from) (c .before .loop .p) (c .before .loop .inv .0) (c .before .before .before .before .before .before .args .end) (c .loop-test .taken) (c .before .before .before .before .before .before .pre .3) (c .before .loop .inv .2) in omega arith
+next-place-requires : tie.Need-next-place-requires Inv-loop μ-loop
+next-place-requires c κs = (search needs, search needs, c .before .before .before .before .before .before .pre .0 .inOrder)
 
-part-put-landings-at-end : tie.Need-part-put-landings-at-end Inv-loop μ-loop
-part-put-landings-at-end c = search needs
-
-put-landings-at-requires : tie.Need-put-landings-at-requires Inv-loop μ-loop
-put-landings-at-requires c κs =
+sub-put-landings-of : tie.Need-sub-put-landings-of Inv-loop μ-loop
+sub-put-landings-of c =
     let g = landingPartAt (c .before .before .before .before .before .before .before .args .s .now) (c .before .before .before .before .before .before .before .args .numbers .now) (c .before .before .before .before .before .before .before .args .slots .now) (c .before .before .before .before .before .before .before .args .end) in
     let fits = turn-room g (c .before .before .before .before .before .before .before .args .from) (c .before .before .loop .p) (c .before .before .loop .inv .0) (c .before .before .before .before .before .before .before .args .end) (c .before .loop-test .taken) (c .before .before .before .before .before .before .before .pre .3) (c .before .before .loop .inv .2) in
-    (c .before .before .before .before .before .before .before .pre .0, c .before .loop-test .taken, c .before .before .before .before .before .before .before .pre .2, lent-room (c .before .before .loop .out) (c .before .before .loop .at) (g (c .before .before .loop .p)) (g (c .before .before .loop .p)) refl fits)
+    omega arith
+
+part-put-landings-of-start : tie.Need-part-put-landings-of-start Inv-loop μ-loop
+part-put-landings-of-start c =
+    let g = landingPartAt (c .before .before .before .before .before .before .before .args .s .now) (c .before .before .before .before .before .before .before .args .numbers .now) (c .before .before .before .before .before .before .before .args .slots .now) (c .before .before .before .before .before .before .before .args .end) in
+    let fits = turn-room g (c .before .before .before .before .before .before .before .args .from) (c .before .before .loop .p) (c .before .before .loop .inv .0) (c .before .before .before .before .before .before .before .args .end) (c .before .loop-test .taken) (c .before .before .before .before .before .before .before .pre .3) (c .before .before .loop .inv .2) in
+    omega arith
+
+part-put-landings-of-end : tie.Need-part-put-landings-of-end Inv-loop μ-loop
+part-put-landings-of-end c = search needs
+
+put-landings-of-requires : tie.Need-put-landings-of-requires Inv-loop μ-loop
+put-landings-of-requires c κs =
+    let g = landingPartAt (c .before .before .before .before .before .before .before .before .args .s .now) (c .before .before .before .before .before .before .before .before .args .numbers .now) (c .before .before .before .before .before .before .before .before .args .slots .now) (c .before .before .before .before .before .before .before .before .args .end) in
+    let fits = turn-room g (c .before .before .before .before .before .before .before .before .args .from) (c .before .before .before .loop .p) (c .before .before .before .loop .inv .0) (c .before .before .before .before .before .before .before .before .args .end) (c .before .before .loop-test .taken) (c .before .before .before .before .before .before .before .before .pre .3) (c .before .before .before .loop .inv .2) in
+    let ahead = next-place (c .before .before .before .before .before .before .before .before .args .s .now) (c .before .before .before .before .before .before .before .before .args .end) (c .before .before .before .before .before .before .before .before .pre .2) (c .before .before .before .loop .p) (c .before .before .loop-test .taken) (c .before .next-place .result) (c .before .next-place .ensures) in
+    (c .before .before .before .before .before .before .before .before .pre .0, ahead .0, omega (arith, ahead .1, c .before .before .before .before .before .before .before .before .pre .2), lent-room (c .before .before .before .loop .out) (c .before .before .before .loop .at) (landingsRun (c .before .before .before .before .before .before .before .before .args .s .now) (c .before .before .before .before .before .before .before .before .args .numbers .now) (c .before .before .before .before .before .before .before .before .args .slots .now) (c .before .before .before .loop .p) (c .before .next-place .result)) (g (c .before .before .before .loop .p)) (landings-turn (c .before .before .before .before .before .before .before .before .args .s .now) (c .before .before .before .before .before .before .before .before .args .end) (c .before .before .before .before .before .before .before .before .pre .2) (c .before .before .before .loop .p) (c .before .before .loop-test .taken) (c .before .next-place .result) (c .before .next-place .ensures) (c .before .before .before .before .before .before .before .before .args .numbers .now) (c .before .before .before .before .before .before .before .before .args .slots .now) (c .before .before .before .loop .inv .3 (c .before .before .loop-test .taken))) fits, subst (λ n. T (isInstruction (sectionAt (c .before .before .before .before .before .before .before .before .args .s .now) (c .before .before .before .loop .p) n))) (sym (c .before .next-place .ensures)) (c .before .before .before .before .before .before .before .before .pre .4 .inOrder (c .before .before .before .loop .p) (c .before .before .before .loop .inv .0) (c .before .before .loop-test .taken) (c .before .before .before .loop .inv .3 (c .before .before .loop-test .taken))))
 
 add-at : tie.Need-add-at Inv-loop μ-loop
 add-at c =
-    let g = landingPartAt (c .before .before .before .before .before .before .before .before .before .before .args .s .now) (c .before .before .before .before .before .before .before .before .before .before .args .numbers .now) (c .before .before .before .before .before .before .before .before .before .before .args .slots .now) (c .before .before .before .before .before .before .before .before .before .before .args .end) in
-    omega (arith, turn-room g (c .before .before .before .before .before .before .before .before .before .before .args .from) (c .before .before .before .before .before .loop .p) (c .before .before .before .before .before .loop .inv .0) (c .before .before .before .before .before .before .before .before .before .before .args .end) (c .before .before .before .before .loop-test .taken) (c .before .before .before .before .before .before .before .before .before .before .pre .3) (c .before .before .before .before .before .loop .inv .2), c .before .before .put-landings-at .ensures .count)
-
-add-p : tie.Need-add-p Inv-loop μ-loop
-add-p c = search needs
+    let g = landingPartAt (c .before .before .before .before .before .before .before .before .before .before .before .args .s .now) (c .before .before .before .before .before .before .before .before .before .before .before .args .numbers .now) (c .before .before .before .before .before .before .before .before .before .before .before .args .slots .now) (c .before .before .before .before .before .before .before .before .before .before .before .args .end) in
+    let fits = turn-room g (c .before .before .before .before .before .before .before .before .before .before .before .args .from) (c .before .before .before .before .before .before .loop .p) (c .before .before .before .before .before .before .loop .inv .0) (c .before .before .before .before .before .before .before .before .before .before .before .args .end) (c .before .before .before .before .before .loop-test .taken) (c .before .before .before .before .before .before .before .before .before .before .before .pre .3) (c .before .before .before .before .before .before .loop .inv .2) in
+    omega (arith, fits, c .before .before .put-landings-of .ensures .count, ap length (landings-turn (c .before .before .before .before .before .before .before .before .before .before .before .args .s .now) (c .before .before .before .before .before .before .before .before .before .before .before .args .end) (c .before .before .before .before .before .before .before .before .before .before .before .pre .2) (c .before .before .before .before .before .before .loop .p) (c .before .before .before .before .before .loop-test .taken) (c .before .before .before .before .next-place .result) (c .before .before .before .before .next-place .ensures) (c .before .before .before .before .before .before .before .before .before .before .before .args .numbers .now) (c .before .before .before .before .before .before .before .before .before .before .before .args .slots .now) (c .before .before .before .before .before .before .loop .inv .3 (c .before .before .before .before .before .loop-test .taken))))
 
 loop-less : tie.Need-loop-less Inv-loop μ-loop
-loop-less c = search needs
+loop-less c =
+    let ahead = next-place (c .before .before .before .before .before .before .before .before .before .before .before .args .s .now) (c .before .before .before .before .before .before .before .before .before .before .before .args .end) (c .before .before .before .before .before .before .before .before .before .before .before .pre .2) (c .before .before .before .before .before .before .loop .p) (c .before .before .before .before .before .loop-test .taken) (c .before .before .before .before .next-place .result) (c .before .before .before .before .next-place .ensures) in
+    omega (arith, ahead .0, ahead .1)
 
 loop-again : tie.Need-loop-again Inv-loop μ-loop
 loop-again c =
-    let g = landingPartAt (c .before .before .before .before .before .before .before .before .before .before .args .s .now) (c .before .before .before .before .before .before .before .before .before .before .args .numbers .now) (c .before .before .before .before .before .before .before .before .before .before .args .slots .now) (c .before .before .before .before .before .before .before .before .before .before .args .end) in
-    let fits = turn-room g (c .before .before .before .before .before .before .before .before .before .before .args .from) (c .before .before .before .before .before .loop .p) (c .before .before .before .before .before .loop .inv .0) (c .before .before .before .before .before .before .before .before .before .before .args .end) (c .before .before .before .before .loop-test .taken) (c .before .before .before .before .before .before .before .before .before .before .pre .3) (c .before .before .before .before .before .loop .inv .2) in
-    (search needs, search needs, wrote-turn g (c .before .before .before .before .before .before .before .before .before .before .args .from) (c .before .before .before .before .before .loop .p) (c .before .before .before .before .before .loop .inv .0) (g (c .before .before .before .before .before .loop .p)) refl (c .before .before .before .before .before .loop .inv .2) (omega arith) (c .before .before .put-landings-at .ensures))
+    let g = landingPartAt (c .before .before .before .before .before .before .before .before .before .before .before .args .s .now) (c .before .before .before .before .before .before .before .before .before .before .before .args .numbers .now) (c .before .before .before .before .before .before .before .before .before .before .before .args .slots .now) (c .before .before .before .before .before .before .before .before .before .before .before .args .end) in
+    let fits = turn-room g (c .before .before .before .before .before .before .before .before .before .before .before .args .from) (c .before .before .before .before .before .before .loop .p) (c .before .before .before .before .before .before .loop .inv .0) (c .before .before .before .before .before .before .before .before .before .before .before .args .end) (c .before .before .before .before .before .loop-test .taken) (c .before .before .before .before .before .before .before .before .before .before .before .pre .3) (c .before .before .before .before .before .before .loop .inv .2) in
+    let ahead = next-place (c .before .before .before .before .before .before .before .before .before .before .before .args .s .now) (c .before .before .before .before .before .before .before .before .before .before .before .args .end) (c .before .before .before .before .before .before .before .before .before .before .before .pre .2) (c .before .before .before .before .before .before .loop .p) (c .before .before .before .before .before .loop-test .taken) (c .before .before .before .before .next-place .result) (c .before .before .before .before .next-place .ensures) in
+    (omega (arith, ahead .0, c .before .before .before .before .before .before .loop .inv .0), ahead .1, next-turn (c .before .before .before .before .before .before .before .before .before .before .before .args .s .now) (c .before .before .before .before .before .before .before .before .before .before .before .args .end) (c .before .before .before .before .before .before .before .before .before .before .before .pre .2) (c .before .before .before .before .before .before .loop .p) (c .before .before .before .before .before .loop-test .taken) (c .before .before .before .before .next-place .result) (c .before .before .before .before .next-place .ensures) g (λ i. landings-other (c .before .before .before .before .before .before .before .before .before .before .before .args .s .now) (c .before .before .before .before .before .before .before .before .before .before .before .args .numbers .now) (c .before .before .before .before .before .before .before .before .before .before .before .args .slots .now) i (c .before .before .before .before .before .before .before .before .before .before .before .args .end)) (c .before .before .before .before .before .before .before .before .before .before .before .args .from) (c .before .before .before .before .before .before .loop .inv .0) (landingsRun (c .before .before .before .before .before .before .before .before .before .before .before .args .s .now) (c .before .before .before .before .before .before .before .before .before .before .before .args .numbers .now) (c .before .before .before .before .before .before .before .before .before .before .before .args .slots .now) (c .before .before .before .before .before .before .loop .p) (c .before .before .before .before .next-place .result)) (landings-turn (c .before .before .before .before .before .before .before .before .before .before .before .args .s .now) (c .before .before .before .before .before .before .before .before .before .before .before .args .end) (c .before .before .before .before .before .before .before .before .before .before .before .pre .2) (c .before .before .before .before .before .before .loop .p) (c .before .before .before .before .before .loop-test .taken) (c .before .before .before .before .next-place .result) (c .before .before .before .before .next-place .ensures) (c .before .before .before .before .before .before .before .before .before .before .before .args .numbers .now) (c .before .before .before .before .before .before .before .before .before .before .before .args .slots .now) (c .before .before .before .before .before .before .loop .inv .3 (c .before .before .before .before .before .loop-test .taken))) (c .before .before .before .before .before .before .loop .inv .2) (omega arith) (c .before .before .put-landings-of .ensures), ahead .2)
 
 same-length : tie.Need-same-length Inv-loop μ-loop
 same-length c = search needs
@@ -67,12 +83,13 @@ put-landings-spec =
     Inv-loop
     μ-loop
     loop-holds
-    sub-put-landings-at
-    part-put-landings-at-start
-    part-put-landings-at-end
-    put-landings-at-requires
+    add-next-place
+    next-place-requires
+    sub-put-landings-of
+    part-put-landings-of-start
+    part-put-landings-of-end
+    put-landings-of-requires
     add-at
-    add-p
     loop-less
     loop-again
     same-length
