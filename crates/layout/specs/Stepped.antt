@@ -89,6 +89,7 @@ number-next s p q l m =
 
 -- A TURN of a loop from the instruction at place p to the next one
 module _ (s : List ℕ) (end : ℕ) (m : end ≤ recordCount s) (p : ℕ) (l : p < end) (next : ℕ) (there : next ≡ nextPlace s 4 (p + 1) end) where
+  -- where it comes to,
   pub next-place : (p < next) × (next ≤ end) × (next < end → kind (recordAt s next) ≡ 4)
   next-place =
       let after : p + 1 ≤ end = omega arith in
@@ -98,11 +99,13 @@ module _ (s : List ℕ) (end : ℕ) (m : end ≤ recordCount s) (p : ℕ) (l : p
         subst (λ (n : ℕ). n < end → kind (recordAt s n) ≡ 4) (sym there) (next-found s 4 end m (p + 1) after .0),
       )
 
+  -- the number there,
   pub next-number : kind (recordAt s p) ≡ 4 → (number : ℕ) → number ≡ numberAt s p → number + 1 ≡ numberAt s next
   next-number four number same =
       let after : p + 1 ≤ end = omega arith in
       omega (arith, same, number-more s p four, number-next s (p + 1) end after m, ap (numberAt s) there)
 
+  -- and what is written then
   pub next-turn :
       (g : ℕ → List Record) → ((i : ℕ) → (kind (recordAt s i) ≡ 4 → ⊥) → g i ≡ []) → (from : ℕ) → from ≤ p
       → {e : List ℕ} {at : ℕ} {x : List ℕ} {r : ℕ} {y : List ℕ} (rs : List Record) → rs ≡ g p → Wrote e (fromTo g from p) at x → at ≤ length x
@@ -112,7 +115,7 @@ module _ (s : List ℕ) (end : ℕ) (m : end ≤ recordCount s) (p : ℕ) (l : p
       wrote-as (fromTo g from (p + 1)) (fromTo g from next) (sym (ap (fromTo g from) there ∙ up-to-next s g only end m from p low l))
       (wrote-turn g from p low rs same w u v)
 
-  -- what it writes
+  -- what it writes itself
   module _ (numbers slots : List ℕ) (four : kind (recordAt s p) ≡ 4) where
     pub instruction-turn :
         (values : ℕ) (sets : ℕ → NumberSet) (number : ℕ) → number ≡ numberAt s p
@@ -165,6 +168,7 @@ head-before s numbers slots p end h =
 
 -- A BLOCK BY ITS FIRST INSTRUCTION, at place front
 module _ (s numbers slots : List ℕ) (values : ℕ) (sets : ℕ → NumberSet) where
+  -- its head from the records before, and the rest from there on
   abbrev pub blockByFirst : ℕ → ℕ → ℕ → List Record
   blockByFirst p front q =
       (headRun s numbers slots p front ++ fromTo (instructionPartAt s numbers slots values sets q) front q) ++ fromTo (landingPartAt s numbers slots q) front q

@@ -128,6 +128,7 @@ module _ (s : List ℕ) (p q : ℕ) (l : p < q) (m : q ≤ recordCount s) (h : T
       (numbers slots : List ℕ) (set : NumberSet) (values : ℕ) → instructionRun s numbers slots set values p q ≡ instructionIn s numbers slots set values p a b q
   instruction-narrowed numbers slots set values = runs-same s numbers slots set values p q a b runs-parted
 
+  -- the kinds of its body
   in-body : Kinds (λ j. has j (5 ∷ 6 ∷ 7 ∷ 8 ∷ 9 ∷ [])) (between s (p + 1) q)
   unfolding keptBy followers
   in-body =
