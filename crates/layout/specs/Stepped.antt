@@ -12,7 +12,7 @@ use Rattle.rules.specs.declared.Record.{Record}
 use Rattle.lists.specs.Tests.{eq→eqb}
 use Rattle.records.specs.Leading.{parameters-lead}
 use Rattle.records.specs.Parts.{isInstruction}
-use Rattle.graph.specs.Between.{between}
+use Rattle.graph.specs.Between.{between, kinds-between}
 use Rattle.listing.specs.Across.{sectionAt}
 use Rattle.listing.specs.Parted.{runEnd, run-parts, kinds-none}
 use Rattle.listing.specs.Stepping.{BlockRecords}
@@ -22,7 +22,7 @@ use Rattle.writing.specs.Next.{nextPlace, nextPlace-none, nextPlace-here, nextP
 use Rattle.writing.specs.Parts.{partAt}
 use Rattle.writing.specs.Places.{fromTo, wrote-turn}
 use Rattle.writing.specs.Wrote.{Wrote, wrote-as}
-use Rattle.writing_instructions.specs.Narrowed.{kind-between, part-only}
+use Rattle.writing_instructions.specs.Narrowed.{part-only}
 use Rattle.writing_instructions.specs.Passed.{passed-before, passed-behind}
 use Rattle.writing_instructions.specs.Runs.{partsRun, instructionRun}
 use Rattle.layout.specs.BlockRuns.{numberAt, number-more, number-same, instruction-next, instructionPartAt, instruction-here, instruction-other, landingsRun, landingPartAt, landings-here, landings-other, headRun, blockRun}
@@ -152,9 +152,9 @@ module _ (s : List ℕ) (start end : ℕ) (h : BlockRecords s start end) where
       let r = runEnd s 3 start end in
       let not-before : first < r → ⊥ =
       λ z.
-      let three = kind-between s (λ j. eqb j 3) start r (omega (arith, parts .1, h .inside)) (parts .2) first (within .0) z in
+      let three = kinds-between s (λ j. eqb j 3) start r (omega (arith, parts .1, h .inside)) (parts .2) first (within .0) z in
       omega (arith, eqb→eq (kind (recordAt s first)) 3 three, found .0 (omega (arith, z, parts .1))) in
-      kind-between s (λ j. not (eqb j 3)) r end (h .inside) (kinds-none 3 (between s r end) (parts .3)) i (omega (arith, l, not-before)) u
+      kinds-between s (λ j. not (eqb j 3)) r end (h .inside) (kinds-none 3 (between s r end) (parts .3)) i (omega (arith, l, not-before)) u
 
   module _ (numbers slots : List ℕ) where
     parameter-run : (y : Part) → partsRun s numbers slots 3 y start end ≡ partsRun s numbers slots 3 y start first

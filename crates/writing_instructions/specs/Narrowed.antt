@@ -1,23 +1,22 @@
 -- An instruction as it is written, each run over its own records only: arguments, results, and what stands behind them.
 use Prim.Native.Nat.{ℕ, _+_, _-_, _<_, _≤_}
 use mathlib.Core.Path.{_≡_, refl, sym, ap, subst, _∙_}
-use mathlib.Core.Bool.{Bool, not}
+use mathlib.Core.Bool.{not}
 use mathlib.Core.List.{List, [], _∷_, _++_}
 use native.Mathlib.Omega.{arith}
 use native.Mathlib.Numerals.{add-one}
 use lib.Dec.{T, eqb, eqb→eq, leb, leb→le}
-use Rattle.rules.specs.Lists.{all, has, NumberSet, nothing}
+use Rattle.rules.specs.Lists.{has, NumberSet, nothing}
 use Rattle.rules.specs.Records.{kind, encode, recordAt, recordCount}
 use Rattle.rules.specs.File.{followers, functionIn}
 use Rattle.rules.specs.Graph.{sizeOf}
 use Rattle.rules.specs.declared.Record.{Record}
-use Rattle.lists.specs.Tests.{and-left, left-out, passes-at}
-use Rattle.lists.specs.Maps.{all-apart}
+use Rattle.lists.specs.Tests.{left-out, passes-at}
 use Rattle.records.specs.Kinds.{Kinds, kinds-weaken}
 use Rattle.records.specs.InOrder.{keptBy, chain-good}
 use Rattle.records.specs.Parts.{isInstruction, inBody, body-chained, body-allowed}
-use Rattle.graph.specs.Between.{between, between-more}
-use Rattle.listing.specs.Across.{sectionAt, between-parted}
+use Rattle.graph.specs.Between.{between, kinds-between}
+use Rattle.listing.specs.Across.{sectionAt}
 use Rattle.listing.specs.Parted.{runEnd, Parted, kinds-none, parted-by}
 use Rattle.numbering.specs.Beside.{madeAt}
 use Rattle.writing.specs.declared.parts.Part.{Part}
@@ -33,14 +32,16 @@ use Rattle.writing_instructions.specs.Runs.{partsRun, edgesRun, exitsRun
 
 -- BY ITS RUNS: arguments from place p on, results from place a on, edges and contexts from place b on and before place q.
 module _ (s numbers slots : List ℕ) where
+  -- the loads before an instruction
   abbrev pub loadsIn : ℕ → ℕ → ℕ → ℕ → List Record
   loadsIn p a b q = partsRun s numbers slots 6 part.Load p a ++ edgesRun s numbers slots edge.Loads b q
 
+  -- its arguments and results
   abbrev pub operandsIn : ℕ → ℕ → ℕ → List Record
   operandsIn p a b = partsRun s numbers slots 6 part.Argument p a ++ partsRun s numbers slots 5 part.Result a b
 
   module _ (set : NumberSet) (values : ℕ) where
-    -- of the instruction at place p itself, with its map
+    -- the instruction at place p itself, with its map
     abbrev pub itselfIn : ℕ → ℕ → ℕ → ℕ → List Record
     itselfIn p a b q =
         (((recordAt s p ∷ []) ++ operandsIn (p + 1) a b) ++ exitsRun s numbers slots b q) ++ entriesBelow (sizeOf (functionIn s)) (slotIn slots) set values
@@ -49,19 +50,12 @@ module _ (s numbers slots : List ℕ) where
     unfoldable pub instructionIn : ℕ → ℕ → ℕ → ℕ → List Record
     instructionIn p a b q = (loadsIn (p + 1) a b q ++ itselfIn p a b q) ++ partsRun s numbers slots 5 part.Store a b
 
--- what stands between two places, by the kinds there
-pub kind-between :
-    (s : List ℕ) (is : ℕ → Bool) (p q : ℕ) → q ≤ recordCount s → Kinds is (between s p q) → (i : ℕ) → p ≤ i → i < q → T (is (kind (recordAt s i)))
-kind-between s is p q m kinds i l u =
-    let there = all-apart (λ r. is (kind r)) (between s p i) (between s i q) (subst (Kinds is) (between-parted s (i - p) p i q (omega arith) (omega arith) m) kinds) .1 in
-    and-left (is (kind (recordAt s i))) (all (λ r. is (kind r)) (between s (i + 1) q)) (subst (Kinds is) (between-more s i q u m ∙ ap (λ (n : ℕ). recordAt s i ∷ between s n q) (sym (add-one i))) there)
-
 -- WHAT IS WRITTEN FOR ONE KIND ONLY is written where records of that kind stand.
 module _ (s : List ℕ) (start end a b : ℕ) (x : Parted s start end a b) (g : ℕ → List Record) (k : ℕ)
     (only : (i : ℕ) → T (not (eqb (kind (recordAt s i)) k)) → g i ≡ []) where
   -- nothing for records of another kind
   none-in : (p q : ℕ) → q ≤ recordCount s → Kinds (λ j. not (eqb j k)) (between s p q) → (i : ℕ) → p ≤ i → i < q → g i ≡ []
-  none-in p q m kinds i l u = only i (kind-between s (λ j. not (eqb j k)) p q m kinds i l u)
+  none-in p q m kinds i l u = only i (kinds-between s (λ j. not (eqb j k)) p q m kinds i l u)
 
   none-of : (j p q : ℕ) → T (not (eqb j k)) → q ≤ recordCount s → Kinds (λ i. eqb i j) (between s p q) → (i : ℕ) → p ≤ i → i < q → g i ≡ []
   none-of j p q other m kinds =
@@ -141,9 +135,9 @@ module _ (s : List ℕ) (p q : ℕ) (l : p < q) (m : q ≤ recordCount s) (h : T
   exit-last below l =
       let x = runs-parted in
       let j = kind (recordAt s (q - 1)) in
-      let inside = kind-between s (λ i. has i (5 ∷ 6 ∷ 7 ∷ 8 ∷ 9 ∷ [])) (p + 1) q m in-body (q - 1) (omega (arith, x .low, x .middle)) (omega arith) in
-      let no-argument = kind-between s (λ i. not (eqb i 6)) a q m (kinds-none 6 (between s a q) (x .noArguments)) (q - 1) (omega (arith, x .middle)) (omega arith) in
-      let no-result = kind-between s (λ i. not (eqb i 5)) b q m (kinds-none 5 (between s b q) (x .noResults)) (q - 1) (omega arith) (omega arith) in
+      let inside = kinds-between s (λ i. has i (5 ∷ 6 ∷ 7 ∷ 8 ∷ 9 ∷ [])) (p + 1) q m in-body (q - 1) (omega (arith, x .low, x .middle)) (omega arith) in
+      let no-argument = kinds-between s (λ i. not (eqb i 6)) a q m (kinds-none 6 (between s a q) (x .noArguments)) (q - 1) (omega (arith, x .middle)) (omega arith) in
+      let no-result = kinds-between s (λ i. not (eqb i 5)) b q m (kinds-none 5 (between s b q) (x .noResults)) (q - 1) (omega arith) (omega arith) in
       let five : 5 ≤ j = leb→le 5 j (passes-at (leb 5) (5 ∷ 6 ∷ 7 ∷ 8 ∷ 9 ∷ []) tt j inside) in
       let not-six : j ≡ 6 → ⊥ = λ e. subst (λ (n : ℕ). T (not (eqb n 6))) e no-argument in
       let not-five : j ≡ 5 → ⊥ = λ e. subst (λ (n : ℕ). T (not (eqb n 5))) e no-result in
