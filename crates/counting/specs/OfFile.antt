@@ -2,10 +2,10 @@
 use Prim.Native.Nat.{ℕ, zero, suc, _+_, _-_, _<_, _≤_}
 use mathlib.Core.Path.{_≡_, refl, sym, ap, _∙_}
 use mathlib.Core.Bool.{false}
-use mathlib.Core.List.{List, [], _∷_, _++_}
+use mathlib.Core.List.{List, []}
 use native.Mathlib.Omega.{arith}
 use native.Mathlib.Numerals.{add-one}
-use lib.ListN.{length, getD, length-append}
+use lib.ListN.{length, length-append}
 use lib.Dec.{T}
 use Rattle.rules.specs.Lists.{concatMap, upFrom}
 use Rattle.rules.specs.Tree.{Block}
@@ -13,8 +13,7 @@ use Rattle.rules.specs.Records.{recordCount, records}
 use Rattle.rules.specs.File.{ordered, blockRecords, functionIn}
 use Rattle.rules.specs.Graph.{blockAt}
 use Rattle.rules.specs.declared.Record.{Record}
-use Rattle.graph.specs.Placed.{placeTable}
-use Rattle.graph.specs.Blocks.{blockPlaces, placeOf, length-blockPlaces, place-less}
+use Rattle.graph.specs.Blocks.{placeOf, place-less, place-last}
 use Rattle.writing.specs.Places.{fromTo, fromTo-none, fromTo-next}
 use Rattle.layout.specs.BlockRuns.{copyAt}
 use Rattle.layout.specs.Copied.{block-copied}
@@ -25,10 +24,6 @@ use Rattle.counting.specs.Added.{blocksLength}
 copied-length : (s : List ℕ) (n p : ℕ) → length (concatMap (copyAt s) (upFrom p n)) ≡ n
 copied-length s zero p = refl
 copied-length s (suc n) p = ap suc (copied-length s n (suc p))
-
-last-of : (ps : List ℕ) (q : ℕ) → getD (ps ++ (q ∷ [])) (length ps) 0 ≡ q
-last-of [] q = refl
-last-of (p ∷ ps) q = last-of ps q
 
 module _ (s : List ℕ) (order : T (ordered 0 (records s))) where
   -- block b's records, and those of the blocks below one
@@ -53,11 +48,6 @@ module _ (s : List ℕ) (order : T (ordered 0 (records s))) where
         below-length b (omega (arith, l)),
       )
 
-  -- the last block ends with the file
-  place-last : placeOf s (length (functionIn s .blocks)) ≡ recordCount s
-  unfolding placeTable
-  place-last = ap (λ (k : ℕ). getD (blockPlaces s ++ (recordCount s ∷ [])) k 0) (sym (length-blockPlaces s)) ∙ last-of (blockPlaces s) (recordCount s)
-
   -- THE LAW.
   pub blocks-of-file : blocksLength (functionIn s .blocks) + placeOf s 0 ≡ recordCount s
   blocks-of-file =
@@ -67,5 +57,5 @@ module _ (s : List ℕ) (order : T (ordered 0 (records s))) where
         arith,
         ap length (concat-by-number blockRecords outside (functionIn s .blocks) n refl),
         below-length n (omega arith),
-        place-last,
+        place-last s,
       )

@@ -2,12 +2,13 @@
 -- from place b to the next, and each of its parts is read off the records there.
 use Prim.Native.Nat.{ℕ, zero, suc, _<_, _≤_}
 use mathlib.Core.Path.{_≡_, refl, sym, ap, _∙_, subst}
-use mathlib.Core.List.{List, [], _∷_, map}
+use mathlib.Core.Bool.{Bool}
+use mathlib.Core.List.{List, [], _∷_, _++_, map}
 use native.Mathlib.Omega.{arith}
-use lib.ListN.{length, getD, length-map}
-use lib.Dec.{T, eqb}
+use lib.ListN.{length, getD, length-map, List·getD-append}
+use lib.Dec.{T, eqb, eqb→eq}
 use Rattle.rules.specs.Tree.{Edge, Instruction, Block}
-use Rattle.rules.specs.Records.{recordAt, recordCount, records}
+use Rattle.rules.specs.Records.{kind, recordAt, recordCount, records}
 use Rattle.rules.specs.File.{ordered, Section, Cut, cut, named, instructionOf, opensItem, blockOf, function, functionIn}
 use Rattle.rules.specs.Graph.{blockAt, instructionsOf, edgesOut, successors}
 use Rattle.rules.specs.declared.Record.{Record}
@@ -18,8 +19,8 @@ use Rattle.lists.specs.Members.{all→∈, getD-∈}
 use Rattle.records.specs.Kinds.{kinds-weaken}
 use Rattle.records.specs.Parts.{blockBody, inBlock, in-block, isBlock, file-blocks, isBlock-body, block-instructions-are, block-picked, targets-picked}
 use Rattle.graph.specs.Between.{between, between-all}
-use Rattle.graph.specs.Sections.{agree, places, sectionsAt, cut-between, length-sectionsAt, section-at, places-same}
-use Rattle.graph.specs.Placed.{placesOf, placeTable, length-placeTable, placeTable-le, placeTable-less}
+use Rattle.graph.specs.Sections.{agree, firstOr, places, sectionsAt, cut-between, length-sectionsAt, section-at, places-same}
+use Rattle.graph.specs.Placed.{placesOf, placeTable, placesOf-kind, length-placeTable, placeTable-le, placeTable-less}
 
 -- the places of a file's block records, and the block table
 abbrev pub blockPlaces : List ℕ → List ℕ
@@ -44,6 +45,15 @@ getD-map-in :
 getD-map-in g [] i d e h = absurd (omega arith)
 getD-map-in g (x ∷ l) zero d e h = refl
 getD-map-in g (x ∷ l) (suc i) d e h = getD-map-in g l i d e (omega arith)
+
+-- the first and the last entry of a table with a number behind its places
+first-entry : (ps : List ℕ) (q : ℕ) → firstOr q ps ≡ getD (ps ++ (q ∷ [])) 0 0
+first-entry [] q = refl
+first-entry (p ∷ ps) q = refl
+
+last-entry : (ps : List ℕ) (q : ℕ) → getD (ps ++ (q ∷ [])) (length ps) 0 ≡ q
+last-entry [] q = refl
+last-entry (p ∷ ps) q = last-entry ps q
 
 module _ (s : List ℕ) where
   -- the sections of the file's blocks
@@ -70,6 +80,28 @@ module _ (s : List ℕ) where
 
   pub place-less : (b : ℕ) → b < length (functionIn s .blocks) → placeOf s b < placeOf s (suc b)
   place-less b l = placeTable-less 2 s b (omega (arith, length-blockPlaces))
+
+  pub place-last : placeOf s (length (functionIn s .blocks)) ≡ recordCount s
+  unfolding placeTable
+  place-last = ap (placeOf s) (sym length-blockPlaces) ∙ last-entry (blockPlaces s) (recordCount s)
+
+  -- Its own record stands there, and before the first one what is in front of all blocks.
+  pub block-head : (b : ℕ) → b < length (functionIn s .blocks) → kind (recordAt s (placeOf s b)) ≡ 2
+  unfolding placeTable
+  block-head b l =
+      let is : ℕ → Bool = λ p. eqb 2 (kind (recordAt s p)) in
+      let long : b < length (blockPlaces s) = omega (arith, length-blockPlaces) in
+      sym (eqb→eq 2 (kind (recordAt s (placeOf s b)))
+      (subst (λ p. T (is p)) (sym (List·getD-append (blockPlaces s) (recordCount s ∷ []) 0 b long))
+      (all→∈ is (blockPlaces s) (placesOf-kind 2 s) (getD-∈ (blockPlaces s) b 0 long))))
+
+  pub front-by-place : cut (eqb 2) (records s) .front ≡ between s 0 (placeOf s 0)
+  unfolding placeTable placesOf
+  front-by-place =
+      ap (λ (rs : List Record). cut (eqb 2) rs .front) (sym (between-all s))
+      ∙ ap (λ (c : Cut). c .front) (cut-between s (eqb 2) 0 (recordCount s) (omega arith) (omega arith))
+      ∙ ap (λ (rs : List Record). between s 0 (firstOr (recordCount s) (places (eqb 2) 0 rs))) (between-all s)
+      ∙ ap (between s 0) (first-entry (places (eqb 2) 0 (records s)) (recordCount s))
 
   section-of : (b : ℕ) (none : Section) → b < length (functionIn s .blocks) → getD (cut (eqb 2) (records s) .sections) b none ≡ sectionOf s b
   unfolding placeTable

@@ -7,11 +7,12 @@ use mathlib.Core.List.{List, [], _∷_, _++_, map}
 use native.Mathlib.Omega.{arith}
 use lib.ListN.{length, getD, length-append, length-map}
 use lib.Dec.{T, eqb}
+use Rattle.rules.specs.Lists.{all}
 use Rattle.rules.specs.Records.{encode, kind, recordAt, recordCount, records}
 use Rattle.rules.specs.File.{ofKind}
 use Rattle.rules.specs.declared.Record.{Record}
 use Rattle.rules.specs.declared.Words.{Words}
-use Rattle.lists.specs.Tests.{eqb-same}
+use Rattle.lists.specs.Tests.{eqb-same, and-intro}
 use Rattle.graph.specs.Between.{between, between-none, between-more, between-all, length-between}
 use Rattle.graph.specs.Sections.{placeIf, places, table-bounds, table-ascends}
 
@@ -50,6 +51,26 @@ module _ (k : ℕ) (s : List ℕ) where
           (one p (between s (suc p) (recordCount s)) (places (eqb k) (suc p) (between s (suc p) (recordCount s)))
           (eqb k (kind (recordAt s p))) (eqb (kind (recordAt s p)) k) (eqb-same k (kind (recordAt s p)))
           (from n (suc p) (omega arith)))
+
+  -- and of that kind.
+  pub placesOf-kind : T (all (λ p. eqb k (kind (recordAt s p))) (placesOf k s))
+  unfolding placesOf
+  placesOf-kind = subst (λ rs. T (all is (places (eqb k) 0 rs))) (between-all s) (from (recordCount s) 0 (omega arith))
+    where
+      is : ℕ → Bool
+      is p = eqb k (kind (recordAt s p))
+
+      one : (p : ℕ) (ps : List ℕ) (b : Bool) → (T b → T (is p)) → T (all is ps) → T (all is (placeIf b p ps))
+      one p ps true h later = and-intro (is p) (all is ps) (h tt) later
+      one p ps false h later = later
+
+      from : (n p : ℕ) → p + n ≡ recordCount s → T (all is (places (eqb k) p (between s p (recordCount s))))
+      from zero p e =
+          let same : recordCount s ≡ p = omega arith in
+          rw (same, between-none s p) tt
+      from (suc n) p e =
+          rw (between-more s p (recordCount s) (omega arith) (omega arith))
+          (one p (places (eqb k) (suc p) (between s (suc p) (recordCount s))) (is p) (λ t. t) (from n (suc p) (omega arith)))
 
   pub length-placesOf : length (placesOf k s) ≡ length (ofKind k (records s))
   length-placesOf = sym (length-map (placesOf k s) (λ p. encode (recordAt s p))) ∙ ap length placesOf-names

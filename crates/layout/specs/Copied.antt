@@ -1,12 +1,12 @@
 -- A block that is copied: the records of its tree are the file's records of it.
 use Prim.Native.Nat.{ℕ, zero, suc, _+_, _-_, _<_, _≤_}
 use mathlib.Core.Path.{_≡_, refl, sym, ap, ap₂, subst, _∙_}
-use mathlib.Core.Bool.{Bool, true, false, not, cond}
+use mathlib.Core.Bool.{Bool, not, cond}
 use mathlib.Core.List.{List, [], _∷_, _++_, map, append-assoc, append-nil}
 use native.Mathlib.Omega.{arith}
-use lib.ListN.{length, getD, List·getD-append}
+use lib.ListN.{length}
 use lib.Dec.{T, eqb, eqb→eq}
-use Rattle.rules.specs.Lists.{all, has, concatMap}
+use Rattle.rules.specs.Lists.{has, concatMap}
 use Rattle.rules.specs.Tree.{MapEntry, instruction, slotAddress, store, load, jump}
 use Rattle.rules.specs.Records.{encode, kind, edgeArgument, recordAt, recordCount, records}
 use Rattle.rules.specs.File.{followers, follows, ordered, Section, Cut, cut, ofKind, named, edgeOf, edgesOf, firstEdge, instructionOf, itemOf, opensItem, blockOf, edgeRecords, itemRecords, blockRecords, functionIn}
@@ -15,17 +15,14 @@ use Rattle.rules.specs.declared.EdgeArgument.the-variants as passes
 use Rattle.rules.specs.declared.Record.{Record}
 use Rattle.rules.specs.declared.Record.the-variants as record′
 use Rattle.rules.specs.declared.Words.{Words}
-use Rattle.lists.specs.Tests.{and-intro, and-right, passes-at}
+use Rattle.lists.specs.Tests.{and-right, passes-at}
 use Rattle.lists.specs.Maps.{concatMap-map, concatMap-where}
-use Rattle.lists.specs.Members.{all→∈, getD-∈}
 use Rattle.records.specs.Kinds.{Kinds, kinds-weaken, ofKind-none, cut-closed}
 use Rattle.records.specs.InOrder.{chain, whole, cut-joins, keptBy, chain-good}
 use Rattle.records.specs.Parts.{blockBody, front-parameters, inBody, isInstruction, head-instruction, body-chained, body-allowed, front-edges, block-instructions}
 use Rattle.records.specs.Leading.{leading, leading-cut, parameters-lead}
-use Rattle.graph.specs.Between.{between, between-none, between-more, between-all}
-use Rattle.graph.specs.Sections.{placeIf, places}
-use Rattle.graph.specs.Placed.{placesOf, placeTable}
-use Rattle.graph.specs.Blocks.{placeOf, sectionOf, length-blockPlaces, place-le, place-less, block-body, blockAt-by-place}
+use Rattle.graph.specs.Between.{between, between-none, between-more}
+use Rattle.graph.specs.Blocks.{placeOf, sectionOf, place-le, place-less, block-body, blockAt-by-place, block-head}
 use Rattle.writing.specs.Places.{fromTo, fromTo-none, fromTo-more}
 use Rattle.writing_instructions.specs.Remade.{block-remade, instruction-remade}
 use Rattle.layout.specs.BlockRuns.{copyAt}
@@ -222,38 +219,6 @@ copy-from s zero p q e m =
 copy-from s (suc n) p q e m =
     rw (between-more s p q (omega arith) m, fromTo-more (copyAt s) p q (omega arith))
     (ap (λ (t : List Record). recordAt s p ∷ t) (copy-from s n (suc p) q (omega arith) m))
-
--- what stands at the places of a kind is of that kind
-places-kind :
-    (s : List ℕ) (k n p : ℕ) → p + n ≡ recordCount s
-    → T (all (λ i. eqb k (kind (recordAt s i))) (places (eqb k) p (between s p (recordCount s))))
-places-kind s k zero p e =
-    let same : recordCount s ≡ p = omega arith in
-    rw (same, between-none s p) tt
-places-kind s k (suc n) p e =
-    rw (between-more s p (recordCount s) (omega arith) (omega arith)) (go (eqb k (kind (recordAt s p))) (λ t. t) (places-kind s k n (suc p) (omega arith)))
-  where
-    ps : List ℕ
-    ps = places (eqb k) (suc p) (between s (suc p) (recordCount s))
-
-    is : ℕ → Bool
-    is i = eqb k (kind (recordAt s i))
-
-    go : (b : Bool) → (T b → T (is p)) → T (all is ps) → T (all is (placeIf b p ps))
-    go true h later = and-intro (is p) (all is ps) (h tt) later
-    go false h later = later
-
--- so a block's record stands where it starts
-pub block-head : (s : List ℕ) (b : ℕ) → b < length (functionIn s .blocks) → kind (recordAt s (placeOf s b)) ≡ 2
-unfolding placeTable placesOf
-block-head s b l =
-    let ps = places (eqb 2) 0 (records s) in
-    let long : b < length ps = omega (arith, length-blockPlaces s) in
-    let is : ℕ → Bool = λ i. eqb 2 (kind (recordAt s i)) in
-    let every : T (all is ps) =
-    subst (λ (rs : List Record). T (all is (places (eqb 2) 0 rs))) (between-all s) (places-kind s 2 (recordCount s) 0 (omega arith)) in
-    let here : T (is (getD ps b 0)) = all→∈ is ps every (getD-∈ ps b 0 long) in
-    sym (eqb→eq 2 (kind (recordAt s (placeOf s b))) (subst (λ (i : ℕ). T (is i)) (sym (List·getD-append ps (recordCount s ∷ []) 0 b long)) here))
 
 -- THE BLOCK COPIED.
 pub block-copied :

@@ -15,7 +15,7 @@ use Rattle.rules.specs.Liveness.{lists}
 use Rattle.rules.specs.declared.Record.{Record}
 use Rattle.lists.specs.Tests.{is-true}
 use Rattle.graph.specs.Tables.{Given}
-use Rattle.graph.specs.Blocks.{placeOf}
+use Rattle.graph.specs.Blocks.{placeOf, block-head}
 use Rattle.graph.specs.ByTable.{place-at, end-le, start-less}
 use Rattle.rows.specs.Rows.{rowValues}
 use Rattle.listing.specs.Stepping.{headsFrom}
@@ -23,7 +23,6 @@ use Rattle.listing.specs.Tables.{IndexTables, tag-reachable, tag-unreachable}
 use Rattle.writing.specs.Parts.{Readable}
 use Rattle.writing.specs.Places.{fromTo}
 use Rattle.layout.specs.BlockRuns.{numberAt, number-same, copyAt, blockRun}
-use Rattle.layout.specs.Copied.{block-head}
 use Rattle.layout.specs.Numbered.{number-behind-run, number-place, number-fits}
 
 -- what the writer of blocks reads: the file by its tables, a tag beside each record, and a row for each instruction

@@ -12,22 +12,20 @@ use lib.Dec.{T, eqb, eqb→eq}
 use Rattle.rules.specs.Lists.{all, keep, isNone, orElse, concatMap, has, upFrom, NumberSet, nothing, members}
 use Rattle.rules.specs.Tree.{Instruction, Function}
 use Rattle.rules.specs.Records.{kind, recordAt, recordCount, records}
-use Rattle.rules.specs.File.{ordered, Cut, cut, instructionOf, functionIn}
+use Rattle.rules.specs.File.{ordered, cut, instructionOf, functionIn}
 use Rattle.rules.specs.Graph.{blockAt, instructionsOf, reachable}
 use Rattle.rules.specs.Liveness.{process, listsAmong, listsOf, lists}
 use Rattle.rules.specs.declared.Record.{Record}
 use Rattle.lists.specs.Maps.{concatMap-append}
 use Rattle.records.specs.Kinds.{Kinds, kinds-weaken}
 use Rattle.records.specs.Parts.{front-values}
-use Rattle.graph.specs.Between.{between, between-none, between-all}
-use Rattle.graph.specs.Sections.{placeIf, places, firstOr, sectionsAt, cut-between, length-sectionsAt}
-use Rattle.graph.specs.Placed.{placesOf, placeTable}
-use Rattle.graph.specs.Blocks.{placeOf, place-le, place-less, instructions-by-place}
+use Rattle.graph.specs.Between.{between, between-none}
+use Rattle.graph.specs.Sections.{placeIf, places, sectionsAt, length-sectionsAt}
+use Rattle.graph.specs.Blocks.{placeOf, place-le, place-less, block-head, front-by-place, instructions-by-place}
 use Rattle.listing.specs.Crossings.{listed, upFrom-more}
 use Rattle.listing.specs.Listed.{list-members, listed-none}
 use Rattle.listing.specs.Stepping.{headsFrom, heads-more}
 use Rattle.layout.specs.BlockRuns.{numberAt, number-same}
-use Rattle.layout.specs.Copied.{block-head}
 
 -- BY PLACE. Instructions that start at these places have the numbers from n on.
 abbrev pub Numbered : List ℕ → ℕ → List ℕ → Type 0
@@ -142,27 +140,17 @@ no-places p (r ∷ rs) h = go (eqb 4 (kind r)) h (no-places (suc p) rs)
     go true h later = absurd h
     go false h later = later h
 
-first-entry : (q : ℕ) (ps : List ℕ) → firstOr q ps ≡ getD (ps ++ (q ∷ [])) 0 0
-first-entry q [] = refl
-first-entry q (p ∷ ps) = refl
-
 module _ (s : List ℕ) (h : T (ordered 0 (records s))) where
   abbrev f : Function
   f = functionIn s
 
   -- before the first block there is no instruction
   front-heads : headsFrom s 0 (placeOf s 0) ≡ []
-  unfolding placeTable placesOf
   front-heads =
-      let rs = records s in
-      let front : cut (eqb 2) rs .front ≡ between s 0 (placeOf s 0) =
-      ap (λ (x : List Record). cut (eqb 2) x .front) (sym (between-all s))
-      ∙ ap (λ (c : Cut). c .front) (cut-between s (eqb 2) 0 (recordCount s) (omega arith) (omega arith))
-      ∙ ap (λ (x : List Record). between s 0 (firstOr (recordCount s) (places (eqb 2) 0 x))) (between-all s)
-      ∙ ap (between s 0) (first-entry (recordCount s) (places (eqb 2) 0 rs)) in
       no-places 0 (between s 0 (placeOf s 0))
-      (subst (Kinds (λ j. not (eqb 4 j))) front
-      (kinds-weaken (eqb 1) (λ j. not (eqb 4 j)) (λ j e. subst (λ i. T (not (eqb 4 i))) (eqb→eq 1 j e) tt) (cut (eqb 2) rs .front) (front-values rs h)))
+      (subst (Kinds (λ j. not (eqb 4 j))) (front-by-place s)
+      (kinds-weaken (eqb 1) (λ j. not (eqb 4 j)) (λ j e. subst (λ i. T (not (eqb 4 i))) (eqb→eq 1 j e) tt) (cut (eqb 2) (records s) .front)
+      (front-values (records s) h)))
 
   -- a block's instructions
   pub length-block-heads :

@@ -19,7 +19,7 @@ use Rattle.rules.specs.Rewriting.{storeItems, instructionItems, landings, rewri
 use Rattle.rules.specs.declared.Record.{Record}
 use Rattle.lists.specs.Maps.{concatMap-append}
 use Rattle.graph.specs.Sections.{firstOr, sectionsAt, length-sectionsAt}
-use Rattle.graph.specs.Blocks.{placeOf, sectionOf, place-le, place-less, blockAt-by-place, instructions-by-place}
+use Rattle.graph.specs.Blocks.{placeOf, sectionOf, place-le, place-less, blockAt-by-place, instructions-by-place, block-head}
 use Rattle.numbering.specs.Beside.{instructionPlanAt, instructionPlansAt, blockPlanAt}
 use Rattle.listing.specs.Crossings.{listed}
 use Rattle.listing.specs.Stepping.{headsFrom}
@@ -36,7 +36,6 @@ use Rattle.writing_instructions.specs.Instruction.{instructionAt, instruction-b
 use Rattle.writing_instructions.specs.Remade.{block-remade}
 use Rattle.writing_instructions.specs.Runs.{partsRun, edgesRun, instructionRun}
 use Rattle.layout.specs.BlockRuns.{numberAt, landingPartAt, instructionIf, instructionPartAt, blockRun, number-same}
-use Rattle.layout.specs.Copied.{block-head}
 use Rattle.layout.specs.Numbered.{Numbered, numbered-from, listsBelow, length-block-heads, number-place, list-in-block, list-row}
 
 -- what agrees at a record of a kind

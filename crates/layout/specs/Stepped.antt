@@ -1,7 +1,7 @@
 -- FROM INSTRUCTION TO INSTRUCTION: at the places between nothing is written, and a block's parameters stand before the first one.
 use Prim.Native.Nat.{ℕ, zero, suc, _+_, _-_, _<_, _≤_}
-use mathlib.Core.Path.{_≡_, refl, sym, ap, subst, _∙_}
-use mathlib.Core.Bool.{Bool, true, false, not}
+use mathlib.Core.Path.{_≡_, sym, ap, subst, _∙_}
+use mathlib.Core.Bool.{not}
 use mathlib.Core.List.{List, [], _∷_, _++_}
 use native.Mathlib.Omega.{arith}
 use lib.ListN.{length, take, drop}
@@ -9,7 +9,6 @@ use lib.Dec.{T, eqb, eqb→eq}
 use Rattle.rules.specs.Lists.{NumberSet}
 use Rattle.rules.specs.Records.{kind, recordAt, recordCount}
 use Rattle.rules.specs.declared.Record.{Record}
-use Rattle.lists.specs.Tests.{eq→eqb}
 use Rattle.records.specs.Leading.{parameters-lead}
 use Rattle.records.specs.Parts.{isInstruction}
 use Rattle.graph.specs.Between.{between, kinds-between}
@@ -18,12 +17,11 @@ use Rattle.listing.specs.Parted.{runEnd, run-parts, kinds-none}
 use Rattle.listing.specs.Stepping.{BlockRecords}
 use Rattle.writing.specs.declared.parts.Part.{Part}
 use Rattle.writing.specs.declared.parts.Part.the-variants as part
-use Rattle.writing.specs.Next.{nextPlace, nextPlace-none, nextPlace-here, nextPlace-later, nextPlace-bounds}
+use Rattle.writing.specs.Next.{nextPlace, nextPlace-bounds, nextPlace-found}
 use Rattle.writing.specs.Parts.{partAt}
-use Rattle.writing.specs.Places.{fromTo, wrote-turn}
+use Rattle.writing.specs.Places.{fromTo, wrote-turn, passed-before, passed-behind}
 use Rattle.writing.specs.Wrote.{Wrote, wrote-as}
 use Rattle.writing_instructions.specs.Narrowed.{part-only}
-use Rattle.writing_instructions.specs.Passed.{passed-before, passed-behind}
 use Rattle.writing_instructions.specs.Runs.{partsRun, instructionRun}
 use Rattle.layout.specs.BlockRuns.{numberAt, number-more, number-same, instruction-next, instructionPartAt, instruction-here, instruction-other, landingsRun, landingPartAt, landings-here, landings-other, headRun, blockRun}
 
@@ -32,47 +30,20 @@ pub record InstructionsFrom (s : List ℕ) (from end : ℕ) : Type 0 where
   pub starts : from < end → kind (recordAt s from) ≡ 4
   pub inOrder : (p : ℕ) → from ≤ p → p < end → kind (recordAt s p) ≡ 4 → T (isInstruction (sectionAt s p (nextPlace s 4 (p + 1) end)))
 
-module _ (s : List ℕ) (k q : ℕ) (m : q ≤ recordCount s) where
-  -- a record of the kind stands at the place, unless that is the end, and none before it
-  abbrev Found : ℕ → ℕ → Type 0
-  Found p r = (r < q → kind (recordAt s r) ≡ k) × ((i : ℕ) → p ≤ i → i < r → kind (recordAt s i) ≡ k → ⊥)
-
-  found-more : (n p : ℕ) → p + n ≡ q → Found p (nextPlace s k p q)
-  found-more zero p e =
-      subst (Found p) (nextPlace-none s k p q (omega arith)) ((λ l. absurd (omega arith)), (λ i l u. absurd (omega arith)))
-  found-more (suc n) p e = go (eqb (kind (recordAt s p)) k) refl (found-more n (p + 1) (omega arith))
-    where
-      go : (b : Bool) → b ≡ eqb (kind (recordAt s p)) k → Found (p + 1) (nextPlace s k (p + 1) q) → Found p (nextPlace s k p q)
-      go true b later =
-          let here = eqb→eq (kind (recordAt s p)) k (subst T b tt) in
-          subst (Found p) (sym (nextPlace-here s k p q (omega arith) m here)) ((λ _. here), (λ i l u. absurd (omega arith)))
-      go false b later =
-          let other : kind (recordAt s p) ≡ k → ⊥ = λ y. subst T (sym b) (eq→eqb y) in
-          subst (Found p) (sym (nextPlace-later s k p q (omega arith) m other)) (later .0, (λ i l u y. passed i l u y (eqb i p) refl))
-        where
-          passed : (i : ℕ) → p ≤ i → i < nextPlace s k (p + 1) q → kind (recordAt s i) ≡ k → (c : Bool) → c ≡ eqb i p → ⊥
-          passed i l u y true c = subst T (sym b) (eq→eqb (ap (λ (j : ℕ). kind (recordAt s j)) (sym (eqb→eq i p (subst T c tt))) ∙ y))
-          passed i l u y false c =
-              let beyond : i ≡ p → ⊥ = λ z. subst T (sym c) (eq→eqb z) in
-              later .1 i (omega (arith, beyond)) u y
-
-  pub next-found : (p : ℕ) → p ≤ q → Found p (nextPlace s k p q)
-  next-found p l = found-more (q - p) p (omega arith)
-
 -- WHAT IS WRITTEN FOR INSTRUCTIONS ONLY
 module _ (s : List ℕ) (g : ℕ → List Record) (only : (i : ℕ) → (kind (recordAt s i) ≡ 4 → ⊥) → g i ≡ []) (end : ℕ) (m : end ≤ recordCount s) where
   -- is written from the first one on,
   pub from-first : (from : ℕ) → from ≤ end → fromTo g from end ≡ fromTo g (nextPlace s 4 from end) end
   from-first from l =
       let within = nextPlace-bounds s 4 from end l m in
-      passed-before g from (nextPlace s 4 from end) end (within .0) (within .1) (λ i low high. only i (next-found s 4 end m from l .1 i low high))
+      passed-before g from (nextPlace s 4 from end) end (within .0) (within .1) (λ i low high. only i (nextPlace-found s 4 end m from l .1 i low high))
 
   -- and behind one the next is where it goes on
   pub up-to-next : (from p : ℕ) → from ≤ p → p < end → fromTo g from (nextPlace s 4 (p + 1) end) ≡ fromTo g from (p + 1)
   up-to-next from p low l =
       let after : p + 1 ≤ end = omega arith in
       let within = nextPlace-bounds s 4 (p + 1) end after m in
-      passed-behind g from (p + 1) (nextPlace s 4 (p + 1) end) (omega arith) (within .0) (λ i u v. only i (next-found s 4 end m (p + 1) after .1 i u v))
+      passed-behind g from (p + 1) (nextPlace s 4 (p + 1) end) (omega arith) (within .0) (λ i u v. only i (nextPlace-found s 4 end m (p + 1) after .1 i u v))
 
 -- the number stays where no instruction starts
 number-stays : (s : List ℕ) (n p q : ℕ) → p + n ≡ q → ((i : ℕ) → p ≤ i → i < q → kind (recordAt s i) ≡ 4 → ⊥) → numberAt s q ≡ numberAt s p
@@ -85,7 +56,7 @@ number-stays s (suc n) p q e none =
 pub number-next : (s : List ℕ) (p q : ℕ) → p ≤ q → q ≤ recordCount s → numberAt s (nextPlace s 4 p q) ≡ numberAt s p
 number-next s p q l m =
     let low = nextPlace-bounds s 4 p q l m .0 in
-    number-stays s (nextPlace s 4 p q - p) p (nextPlace s 4 p q) (omega arith) (next-found s 4 q m p l .1)
+    number-stays s (nextPlace s 4 p q - p) p (nextPlace s 4 p q) (omega arith) (nextPlace-found s 4 q m p l .1)
 
 -- A TURN of a loop from the instruction at place p to the next one
 module _ (s : List ℕ) (end : ℕ) (m : end ≤ recordCount s) (p : ℕ) (l : p < end) (next : ℕ) (there : next ≡ nextPlace s 4 (p + 1) end) where
@@ -96,7 +67,7 @@ module _ (s : List ℕ) (end : ℕ) (m : end ≤ recordCount s) (p : ℕ) (l : p
       let within = nextPlace-bounds s 4 (p + 1) end after m in (
         omega (arith, within .0, there),
         omega (arith, within .1, there),
-        subst (λ (n : ℕ). n < end → kind (recordAt s n) ≡ 4) (sym there) (next-found s 4 end m (p + 1) after .0),
+        subst (λ (n : ℕ). n < end → kind (recordAt s n) ≡ 4) (sym there) (nextPlace-found s 4 end m (p + 1) after .0),
       )
 
   -- the number there,
@@ -136,7 +107,7 @@ module _ (s : List ℕ) (start end : ℕ) (h : BlockRecords s start end) where
   within = nextPlace-bounds s 4 start end (h .ascends) (h .inside)
 
   abbrev found : (first < end → kind (recordAt s first) ≡ 4) × ((i : ℕ) → start ≤ i → i < first → kind (recordAt s i) ≡ 4 → ⊥)
-  found = next-found s 4 end (h .inside) start (h .ascends)
+  found = nextPlace-found s 4 end (h .inside) start (h .ascends)
 
   pub instructions-behind : InstructionsFrom s first end
   instructions-behind =

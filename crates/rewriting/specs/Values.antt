@@ -2,23 +2,21 @@
 use Prim.Native.Nat.{ℕ, suc}
 use mathlib.Core.Path.{_≡_, refl, sym, ap, subst, _∙_}
 use mathlib.Core.Bool.{not}
-use mathlib.Core.List.{List, [], _∷_, _++_}
+use mathlib.Core.List.{List, [], _∷_}
 use native.Mathlib.Omega.{arith}
-use lib.ListN.{length, getD, length-map}
+use lib.ListN.{length, length-map}
 use lib.Dec.{T, eqb, eqb→eq}
 use Rattle.rules.specs.Lists.{all, concatMap}
-use Rattle.rules.specs.Records.{encode, kind, recordCount, records}
-use Rattle.rules.specs.File.{ordered, Section, Cut, cut, ofKind, function, functionIn}
+use Rattle.rules.specs.Records.{encode, kind, records}
+use Rattle.rules.specs.File.{ordered, Section, cut, ofKind, function, functionIn}
 use Rattle.rules.specs.declared.Record.{Record}
 use Rattle.lists.specs.Tests.{and-intro, and-left, T-and, chosen, eqb-swap, passes-at}
 use Rattle.records.specs.Kinds.{Kinds, kinds-append, kinds-weaken, ofKind-stop}
 use Rattle.records.specs.InOrder.{whole, Sections, cut-joins, opened, chained}
 use Rattle.records.specs.Parts.{front-values, inBlock, in-block, isBlock, isBlock-body, file-blocks}
 use Rattle.records.specs.Values.{valueOf}
-use Rattle.graph.specs.Between.{between, between-all, length-between}
-use Rattle.graph.specs.Sections.{places, firstOr, first-bounds, cut-between}
-use Rattle.graph.specs.Placed.{placesOf, placeTable}
-use Rattle.graph.specs.Blocks.{placeOf}
+use Rattle.graph.specs.Between.{length-between}
+use Rattle.graph.specs.Blocks.{placeOf, place-le, front-by-place}
 
 -- a block has no value among its records
 block-no-value : (t : Section) → T (isBlock t) → Kinds (λ j. not (eqb j 1)) (whole t)
@@ -43,31 +41,19 @@ all-of-kind k (r ∷ rs) h =
     let both = T-and (eqb k (kind r)) (all (λ x. eqb k (kind x)) rs) h in
     ap length (chosen (eqb (kind r) k) (encode r ∷ ofKind k rs) (ofKind k rs) (eqb-swap k (kind r) (both .0))) ∙ ap suc (all-of-kind k rs (both .1))
 
-first-of : (ps : List ℕ) (q : ℕ) → getD (ps ++ (q ∷ [])) 0 0 ≡ firstOr q ps
-first-of [] q = refl
-first-of (p ∷ ps) q = refl
-
 -- THE LAW.
 pub values-first : (s : List ℕ) → T (ordered 0 (records s)) → placeOf s 0 ≡ length (functionIn s .values)
-unfolding function placeTable placesOf
+unfolding function
 values-first s order =
     let rs = records s in
-    let n = recordCount s in
     let c = cut (eqb 2) rs in
-    let front : c .front ≡ between s 0 (firstOr n (places (eqb 2) 0 (between s 0 n))) =
-    ap (λ (xs : List Record). cut (eqb 2) xs .front) (sym (between-all s)) ∙ ap (λ (d : Cut). d .front) (cut-between s (eqb 2) 0 n (omega arith) (omega arith)) in
-    let at : firstOr n (places (eqb 2) 0 (between s 0 n)) ≡ firstOr n (places (eqb 2) 0 rs) =
-    ap (λ (xs : List Record). firstOr n (places (eqb 2) 0 xs)) (between-all s) in
-    let bound = first-bounds (eqb 2) 0 n (between s 0 n) (omega (arith, length-between s 0 n (omega arith))) in
     let kept : ofKind 1 rs ≡ ofKind 1 (c .front) =
     ap (ofKind 1) (sym (cut-joins (eqb 2) rs))
     ∙ ofKind-stop 1 (c .front) (concatMap whole (c .sections)) (blocks-no-value (c .sections) (file-blocks rs order)) in
     omega (
       arith,
-      first-of (places (eqb 2) 0 rs) n,
-      at,
-      ap length front,
-      length-between s 0 (firstOr n (places (eqb 2) 0 (between s 0 n))) (bound .1),
+      ap length (front-by-place s),
+      length-between s 0 (placeOf s 0) (place-le s 0 (omega arith)),
       all-of-kind 1 (c .front) (front-values rs order),
       ap length kept,
       length-map (ofKind 1 rs) valueOf,

@@ -1,11 +1,11 @@
 -- The next record of a kind, by its place: where a part of a block or of an instruction ends.
-use Prim.Native.Nat.{ℕ, suc, _-_, _+_, _<_, _≤_}
-use mathlib.Core.Path.{_≡_, refl, sym, ap, _∙_}
-use mathlib.Core.Bool.{Bool}
+use Prim.Native.Nat.{ℕ, zero, suc, _-_, _+_, _<_, _≤_}
+use mathlib.Core.Path.{_≡_, refl, sym, ap, subst, _∙_}
+use mathlib.Core.Bool.{Bool, true, false}
 use mathlib.Core.List.{List}
 use native.Mathlib.Omega.{arith}
 use native.Mathlib.Numerals.{add-one}
-use lib.Dec.{eqb, eqb→eq, not-T}
+use lib.Dec.{T, eqb, eqb→eq, not-T}
 use Rattle.rules.specs.Records.{kind, recordAt, recordCount}
 use Rattle.rules.specs.declared.Record.{Record}
 use Rattle.lists.specs.Tests.{eq→eqb, is-true, is-false}
@@ -45,3 +45,32 @@ module _ (s : List ℕ) (k : ℕ) where
   pub nextPlace-bounds : (p q : ℕ) → p ≤ q → q ≤ recordCount s → (p ≤ nextPlace s k p q) × (nextPlace s k p q ≤ q)
   unfolding nextPlace
   nextPlace-bounds p q l m = first-bounds (eqb k) p q (between s p q) (omega (arith, length-between s p q m))
+
+-- WHAT STANDS THERE
+module _ (s : List ℕ) (k q : ℕ) (m : q ≤ recordCount s) where
+  -- a record of the kind at place r, unless that is the end, and none from place p on before it
+  abbrev pub Found : ℕ → ℕ → Type 0
+  Found p r = (r < q → kind (recordAt s r) ≡ k) × ((i : ℕ) → p ≤ i → i < r → kind (recordAt s i) ≡ k → ⊥)
+
+  found-from : (n p : ℕ) → p + n ≡ q → Found p (nextPlace s k p q)
+  found-from zero p e =
+      subst (Found p) (nextPlace-none s k p q (omega arith)) ((λ l. absurd (omega arith)), (λ i l u. absurd (omega arith)))
+  found-from (suc n) p e = go (eqb (kind (recordAt s p)) k) refl (found-from n (p + 1) (omega arith))
+    where
+      go : (b : Bool) → b ≡ eqb (kind (recordAt s p)) k → Found (p + 1) (nextPlace s k (p + 1) q) → Found p (nextPlace s k p q)
+      go true b later =
+          let here = eqb→eq (kind (recordAt s p)) k (subst T b tt) in
+          subst (Found p) (sym (nextPlace-here s k p q (omega arith) m here)) ((λ _. here), (λ i l u. absurd (omega arith)))
+      go false b later =
+          let other : kind (recordAt s p) ≡ k → ⊥ = λ y. subst T (sym b) (eq→eqb y) in
+          subst (Found p) (sym (nextPlace-later s k p q (omega arith) m other)) (later .0, (λ i l u y. passed i l u y (eqb i p) refl))
+        where
+          passed : (i : ℕ) → p ≤ i → i < nextPlace s k (p + 1) q → kind (recordAt s i) ≡ k → (c : Bool) → c ≡ eqb i p → ⊥
+          passed i l u y true c = subst T (sym b) (eq→eqb (ap (λ (j : ℕ). kind (recordAt s j)) (sym (eqb→eq i p (subst T c tt))) ∙ y))
+          passed i l u y false c =
+              let beyond : i ≡ p → ⊥ = λ z. subst T (sym c) (eq→eqb z) in
+              later .1 i (omega (arith, beyond)) u y
+
+  -- the next place is so
+  pub nextPlace-found : (p : ℕ) → p ≤ q → Found p (nextPlace s k p q)
+  nextPlace-found p l = found-from (q - p) p (omega arith)

@@ -92,3 +92,25 @@ module _ (g : ℕ → List Record) (p i : ℕ) (l : p ≤ i) where
 -- the start of a loop
 pub wrote-start : (g : ℕ → List Record) (p : ℕ) (e : List ℕ) → Wrote e (fromTo g p p) 0 e
 wrote-start g p e = wrote-as [] (fromTo g p p) (sym (fromTo-none g p)) (wrote-none e)
+
+-- PLACES AT WHICH NOTHING IS WRITTEN may be passed over: from one to another there is nothing,
+nothing-written : (p q : ℕ) → fromTo (λ _. []) p q ≡ []
+unfolding fromTo
+nothing-written p q = go (upFrom p (q - p))
+  where
+    go : (is : List ℕ) → concatMap {B = Record} (λ _. []) is ≡ []
+    go [] = refl
+    go (i ∷ is) = go is
+
+module _ (g : ℕ → List Record) (p m q : ℕ) (l : p ≤ m) (u : m ≤ q) where
+  -- so those before a place,
+  pub passed-before : ((i : ℕ) → p ≤ i → i < m → g i ≡ []) → fromTo g p q ≡ fromTo g m q
+  passed-before none =
+      fromTo-split g p m q l u ∙ ap (λ (t : List Record). t ++ fromTo g m q) (fromTo-same g (λ _. []) p m none ∙ nothing-written p m)
+
+  -- and those from it on
+  pub passed-behind : ((i : ℕ) → m ≤ i → i < q → g i ≡ []) → fromTo g p q ≡ fromTo g p m
+  passed-behind none =
+      fromTo-split g p m q l u
+      ∙ ap (λ (t : List Record). fromTo g p m ++ t) (fromTo-same g (λ _. []) m q none ∙ nothing-written m q)
+      ∙ append-nil (fromTo g p m)

@@ -10,8 +10,7 @@ use Rattle.rules.specs.Rewriting.{mapEntry}
 use Rattle.rules.specs.declared.Record.{Record}
 use Rattle.rules.specs.declared.Record.the-variants as record′
 use Rattle.rows.specs.Bits.{bitAt}
-use Rattle.writing.specs.Places.{fromTo, fromTo-same}
-use Rattle.writing_instructions.specs.Passed.{passed-behind}
+use Rattle.writing.specs.Places.{fromTo, fromTo-same, passed-behind}
 
 -- the values from base on that a word has bits for, as a set
 abbrev pub inWord : ℕ → ℕ → NumberSet

@@ -1,4 +1,3 @@
-pub mod Passed
 pub mod Entries
 pub mod Runs
 pub mod Narrowed

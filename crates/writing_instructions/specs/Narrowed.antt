@@ -1,5 +1,5 @@
 -- An instruction as it is written, each run over its own records only: arguments, results, and what stands behind them.
-use Prim.Native.Nat.{ℕ, _+_, _-_, _<_, _≤_}
+use Prim.Native.Nat.{ℕ, suc, _+_, _-_, _<_, _≤_}
 use mathlib.Core.Path.{_≡_, refl, sym, ap, subst, _∙_}
 use mathlib.Core.Bool.{not}
 use mathlib.Core.List.{List, [], _∷_, _++_}
@@ -8,26 +8,25 @@ use native.Mathlib.Numerals.{add-one}
 use lib.Dec.{T, eqb, eqb→eq, leb, leb→le}
 use Rattle.rules.specs.Lists.{has, NumberSet, nothing}
 use Rattle.rules.specs.Records.{kind, encode, recordAt, recordCount}
-use Rattle.rules.specs.File.{followers, functionIn}
+use Rattle.rules.specs.File.{functionIn}
 use Rattle.rules.specs.Graph.{sizeOf}
 use Rattle.rules.specs.declared.Record.{Record}
 use Rattle.lists.specs.Tests.{left-out, passes-at}
 use Rattle.records.specs.Kinds.{Kinds, kinds-weaken}
-use Rattle.records.specs.InOrder.{keptBy, chain-good}
-use Rattle.records.specs.Parts.{isInstruction, inBody, body-chained, body-allowed}
+use Rattle.records.specs.Parts.{isInstruction}
 use Rattle.graph.specs.Between.{between, kinds-between}
+use Rattle.blocksets.specs.Instructions.{inInstruction, body-kinds}
 use Rattle.listing.specs.Across.{sectionAt}
 use Rattle.listing.specs.Parted.{runEnd, Parted, kinds-none, parted-by}
 use Rattle.numbering.specs.Beside.{madeAt}
 use Rattle.writing.specs.declared.parts.Part.{Part}
 use Rattle.writing.specs.declared.parts.Part.the-variants as part
 use Rattle.writing.specs.Parts.{slotIn, partAt, partRecords}
-use Rattle.writing.specs.Places.{fromTo, fromTo-none}
+use Rattle.writing.specs.Places.{fromTo, fromTo-none, passed-before, passed-behind}
 use Rattle.writing_edges.specs.declared.edges.EdgePart.{EdgePart}
 use Rattle.writing_edges.specs.declared.edges.EdgePart.the-variants as edge
 use Rattle.writing_edges.specs.Edges.{edgePartAt, edge-other}
 use Rattle.writing_instructions.specs.Entries.{entriesBelow}
-use Rattle.writing_instructions.specs.Passed.{passed-before, passed-behind}
 use Rattle.writing_instructions.specs.Runs.{partsRun, edgesRun, exitsRun, instructionRun}
 
 -- BY ITS RUNS: arguments from place p on, results from place a on, edges and contexts from place b on and before place q.
@@ -122,20 +121,12 @@ module _ (s : List ℕ) (p q : ℕ) (l : p < q) (m : q ≤ recordCount s) (h : T
       (numbers slots : List ℕ) (set : NumberSet) (values : ℕ) → instructionRun s numbers slots set values p q ≡ instructionIn s numbers slots set values p a b q
   instruction-narrowed numbers slots set values = runs-same s numbers slots set values p q a b runs-parted
 
-  -- the kinds of its body
-  in-body : Kinds (λ j. has j (5 ∷ 6 ∷ 7 ∷ 8 ∷ 9 ∷ [])) (between s (p + 1) q)
-  unfolding keptBy followers
-  in-body =
-      subst (λ (n : ℕ). Kinds (λ j. has j (5 ∷ 6 ∷ 7 ∷ 8 ∷ 9 ∷ [])) (between s n q)) (sym (add-one p))
-      (chain-good (4 ∷ 5 ∷ 6 ∷ 7 ∷ 8 ∷ 9 ∷ []) inBody (λ j. has j (5 ∷ 6 ∷ 7 ∷ 8 ∷ 9 ∷ [])) tt 4 (sectionAt s p q .body) tt
-      (body-chained (sectionAt s p q) h) (body-allowed (sectionAt s p q) h))
-
   -- what stands behind the results goes to the end
   exit-last : kind (recordAt s (q - 1)) < 7 → b < q → ⊥
   exit-last below l =
       let x = runs-parted in
       let j = kind (recordAt s (q - 1)) in
-      let inside = kinds-between s (λ i. has i (5 ∷ 6 ∷ 7 ∷ 8 ∷ 9 ∷ [])) (p + 1) q m in-body (q - 1) (omega (arith, x .low, x .middle)) (omega arith) in
+      let inside = kinds-between s inInstruction (suc p) q m (body-kinds (functionIn s) (sectionAt s p q) h) (q - 1) (omega (arith, x .low, x .middle)) (omega arith) in
       let no-argument = kinds-between s (λ i. not (eqb i 6)) a q m (kinds-none 6 (between s a q) (x .noArguments)) (q - 1) (omega (arith, x .middle)) (omega arith) in
       let no-result = kinds-between s (λ i. not (eqb i 5)) b q m (kinds-none 5 (between s b q) (x .noResults)) (q - 1) (omega arith) (omega arith) in
       let five : 5 ≤ j = leb→le 5 j (passes-at (leb 5) (5 ∷ 6 ∷ 7 ∷ 8 ∷ 9 ∷ []) tt j inside) in
