@@ -1,26 +1,30 @@
 -- Refusal 4 for a loop over records: their order and the numbers of blocks from a place on, one record more.
 use Prim.Native.Nat.{ℕ, suc, _+_, _<_}
-use mathlib.Core.Path.{_≡_, refl, sym, ap, ap₂, _∙_}
+use mathlib.Core.Path.{_≡_, refl, sym, ap, ap₂, subst, _∙_}
 use mathlib.Core.Bool.{Bool, true, false, not, _&&_, _||_}
 use mathlib.Core.List.{List, _∷_}
 use native.Mathlib.Omega.{arith}
-use lib.Dec.{eqb, leb, ltb, ltb→lt, lt→ltb, nleb→lt}
+use lib.Dec.{T, eqb, leb, ltb, ltb→lt, lt→ltb, nleb→lt}
 use lib.Arith.{lt→nleb}
 use Rattle.rules.specs.Tree.{Block}
 use Rattle.rules.specs.Records.{encode, kind, bit, recordAt, recordCount, records}
-use Rattle.rules.specs.File.{cut, blockOf, follows, function, functionIn, ordered}
+use Rattle.rules.specs.File.{cut, blockOf, followers, follows, function, functionIn, ordered}
 use Rattle.rules.specs.Refusals.{numberedFrom}
+use Rattle.rules.specs.declared.Words.{Words}
 use Rattle.rules.specs.declared.Record.{Record}
-use Rattle.lists.specs.Tests.{T-ext}
+use Rattle.lists.specs.Tests.{T-ext, is-false}
+use Rattle.records.specs.Kinds.{kind-small}
+use Rattle.records.specs.InTable.{inTable, fourWords, words-there, kind-outside}
 use Rattle.records.specs.Places.{rest, rest-all, rest-next, restBy-done}
 use Rattle.records.specs.Parts.{blocks-more}
+use Rattle.checks.proofs.Table.{all-below}
 
--- what a record says of a number: it opens no block, or the block of that number
-abbrev numberedBy : Record → ℕ → Bool
-numberedBy r n = not (eqb 2 (kind r)) || eqb (encode r .third) n
+-- what the words of a record say of a number: they open no block, or the block of that number
+abbrev numberedBy : Words → ℕ → Bool
+numberedBy w n = not (eqb 2 (w .kind)) || eqb (w .third) n
 
 numbered-more : (n : ℕ) (r : Record) (rs : List Record)
-    → numberedFrom n (function (r ∷ rs) .blocks) ≡ (numberedBy r n && numberedFrom (n + bit (eqb 2 (kind r))) (function rs .blocks))
+    → numberedFrom n (function (r ∷ rs) .blocks) ≡ (numberedBy (encode r) n && numberedFrom (n + bit (eqb 2 (kind r))) (function rs .blocks))
 numbered-more n r rs = ap (numberedFrom n) (blocks-more r rs) ∙ go (eqb 2 (kind r))
   where
     first : Block
@@ -60,23 +64,51 @@ module _ (s : List ℕ) where
       and-true true = refl
       and-true false = refl
 
-  module _ (p n i : ℕ) (r : Record) (e : r ≡ recordAt s i) (h : i < recordCount s) where
-    one-more :
-        formed p n i
-        ≡ ((follows p (kind r) && ordered (kind r) (rest s (i + 1)))
-        && (numberedBy r n && numberedFrom (n + bit (eqb 2 (kind r))) (function (rest s (i + 1)) .blocks)))
+  module _ (p n i : ℕ) (w : Words) (e : encode (recordAt s i) ≡ w) (h : i < recordCount s) where
+    -- those behind
+    abbrev later : List Record
+    later = rest s (i + 1)
+
+    abbrev split : Words → Bool
+    split x = (follows p (x .kind) && ordered (x .kind) later) && (numberedBy x n && numberedFrom (n + bit (eqb 2 (x .kind))) (function later .blocks))
+
+    one-more : formed p n i ≡ split w
     one-more =
-        ap (formedBy p n) (rest-next s i h ∙ ap (λ x. x ∷ rest s (i + 1)) (sym e))
-        ∙ ap (λ b. ordered p (r ∷ rest s (i + 1)) && b) (numbered-more n r (rest s (i + 1)))
+        ap (formedBy p n) (rest-next s i h)
+        ∙ ap (λ b. ordered p (recordAt s i ∷ later) && b) (numbered-more n (recordAt s i) later)
+        ∙ ap split e
 
     -- a record that may not follow,
-    pub formed-order : follows p (kind r) ≡ false → formed p n i ≡ false
+    pub formed-order : follows p (w .kind) ≡ false → formed p n i ≡ false
     formed-order f = one-more ∙ rw f refl
 
     -- a block with another number,
-    pub formed-number : numberedBy r n ≡ false → formed p n i ≡ false
-    formed-number f = one-more ∙ rw f (and-none (follows p (kind r) && ordered (kind r) (rest s (i + 1))))
+    pub formed-number : numberedBy w n ≡ false → formed p n i ≡ false
+    formed-number f = one-more ∙ rw f (and-none (follows p (w .kind) && ordered (w .kind) later))
 
     -- and what may stand here
-    pub formed-goes : follows p (kind r) ≡ true → numberedBy r n ≡ true → formed p n i ≡ formed (kind r) (n + bit (eqb 2 (kind r))) (i + 1)
-    formed-goes f g = one-more ∙ ap₂ (λ a b. (a && ordered (kind r) (rest s (i + 1))) && (b && numberedFrom (n + bit (eqb 2 (kind r))) (function (rest s (i + 1)) .blocks))) f g
+    pub formed-goes : follows p (w .kind) ≡ true → numberedBy w n ≡ true → formed p n i ≡ formed (w .kind) (n + bit (eqb 2 (w .kind))) (i + 1)
+    formed-goes f g =
+        one-more
+        ∙ ap₂ (λ a b. (a && ordered (w .kind) later) && (b && numberedFrom (n + bit (eqb 2 (w .kind))) (function later .blocks))) f g
+
+-- WORDS AT A PLACE are those of its record where they are of the table,
+module _ (s : List ℕ) (i : ℕ) (w : Words) (e : w ≡ fourWords s i) where
+  abbrev tested : Words → Bool
+  tested x = inTable (x .kind) (x .second) (x .third) (x .fourth)
+
+  pub words-stand : tested w ≡ true → encode (recordAt s i) ≡ w
+  words-stand h = words-there s i (subst T (sym (ap tested (sym e) ∙ h)) tt) ∙ sym e
+
+  pub kind-stands : tested w ≡ true → w .kind < 16
+  kind-stands h =
+      let l = ltb→lt (kind (recordAt s i)) 16 (kind-small (recordAt s i)) in
+      let k : kind (recordAt s i) ≡ w .kind = ap (λ (x : Words). x .kind) (words-stand h) in
+      omega arith
+
+  -- and else nothing may stand there.
+  pub outside-follows : tested w ≡ false → (p : ℕ) → p < 16 → follows p (kind (recordAt s i)) ≡ false
+  unfolding follows followers
+  outside-follows h p l =
+      ap (follows p) (kind-outside s i (ap tested (sym e) ∙ h))
+      ∙ is-false (follows p 0) (all-below (λ q. not (follows q 0)) 16 tt p l)

@@ -4,15 +4,15 @@ ghost use Prim.Native.Nat.{_<_};
 ghost use mathlib.Core.Bool.{not, _&&_, _||_};
 ghost use lib.Dec.{eqb};
 ghost use lib.ListN.{getD};
-ghost use Rattle.rules.specs.Records.{encode, kind, records};
+ghost use Rattle.rules.specs.Records.{records};
 ghost use Rattle.rules.specs.File.{follows, ordered, functionIn};
 ghost use Rattle.rules.specs.Refusals.{numberedFrom};
 ghost use Rattle.checks.specs.Order.{followerBits};
 use crate::counts::one_if_same;
-use records::kind_of;
-use records::record_at;
+use records::four_words;
+use records::table::is_in_table;
 use rules::RECORD_BYTES;
-use rules::Record;
+use rules::Words;
 
 // The kinds that may stand behind a kind, kind k at bit k; row 0 is the start of the file, and behind an output's kinds
 // nothing may stand.
@@ -42,20 +42,17 @@ fn may_follow(p: u32, k: u32) -> bool
     (followers_of(p) >> k) % 2 == 1
 }
 
-// Whether a record that opens a block has this number; others have any.
-fn numbered_as(r: Record, number: usize) -> bool
-    ensures { λ b. ⌜ b ≡ (not (eqb 2 (kind r)) || eqb (encode r .third) number) ⌝ }
+// Whether four words that open a block have this number; others have any.
+fn numbered_as(w: Words, number: usize) -> bool
+    ensures { λ b. ⌜ b ≡ (not (eqb 2 (w .kind)) || eqb (w .third) number) ⌝ }
 {
-    match r {
-        Record::Block {
-            cold: _,
-            number: own,
-        } => own as usize == number,
-        _ => true,
+    if w.kind == 2 {
+        return w.third as usize == number;
     }
+    true
 }
 
-// Whether a file is malformed: out of order, a word outside the table, no block, or a block not numbered by its position.
+// Whether a file is malformed: a word outside the table, out of order, no block, or a block not numbered by its position.
 pub fn malformed(s: &[u8]) -> bool
     ensures { λ r. ⌜ r ≡ not (ordered 0 (records (now (s .entry))) && numberedFrom 0 (functionIn (now (s .entry)) .blocks)) ⌝ }
 {
@@ -64,16 +61,18 @@ pub fn malformed(s: &[u8]) -> bool
     let mut number: usize = 0;
     let mut i: usize = 0;
     while i < n {
-        let r = record_at(s, i);
-        let k = kind_of(r);
-        if !may_follow(p, k) {
+        let w = four_words(s, i);
+        if !is_in_table(w) {
             return true;
         }
-        if !numbered_as(r, number) {
+        if !may_follow(p, w.kind) {
             return true;
         }
-        number += one_if_same(2, k);
-        p = k;
+        if !numbered_as(w, number) {
+            return true;
+        }
+        number += one_if_same(2, w.kind);
+        p = w.kind;
         i += 1;
     }
     p < 4

@@ -1,15 +1,16 @@
 -- A record of the table is read by its words as they stand, and in a file in order every record is of the table.
 use Prim.Native.Nat.{ℕ, zero, suc, _+_, _*_, _<_}
 use mathlib.Core.Path.{_≡_, refl, sym, ap, ap₂, subst, _∙_}
-use mathlib.Core.Bool.{Bool, true, false, _&&_, cond}
+use mathlib.Core.Bool.{Bool, true, false, not, _&&_, cond}
 use mathlib.Core.List.{List, [], _∷_}
 use native.Mathlib.Omega.{arith}
 use lib.ListN.{length, getD}
-use lib.Dec.{T, leb, eqb, eqb→eq, leb→le}
+use lib.Dec.{T, leb, eqb, eqb→eq, leb→le, nleb→lt}
 use Rattle.rules.specs.Limits.{recordBytes}
 use Rattle.rules.specs.Lists.{all, has}
 use Rattle.rules.specs.Records.{wordAt, words, bit, slotSizes, log2, isSafepoint, isTerminator, edgeArgument, encode, kind, decode, recordAt, recordCount, records}
 use Rattle.rules.specs.File.{followers, ordered}
+use Rattle.rules.specs.declared.Words.{Words}
 use Rattle.rules.specs.declared.Record.{Record}
 use Rattle.rules.specs.declared.Record.the-variants as record′
 use Rattle.lists.specs.Tests.{T-and, and-left, and-right}
@@ -20,6 +21,14 @@ use Rattle.records.specs.Places.{record-there, records-length}
 -- a record of the table
 abbrev pub InTable : Record → Type 0
 InTable r = T (leb 1 (kind r))
+
+-- whether four words are one
+unfoldable pub inTable : ℕ → ℕ → ℕ → ℕ → Bool
+inTable k a b c = leb 1 (kind (decode k a b c))
+
+-- the four words at the place of record i, whatever they are
+abbrev pub fourWords : List ℕ → ℕ → Words
+fourWords s i = words (wordAt s (recordBytes * i)) (wordAt s (recordBytes * i + 4)) (wordAt s (recordBytes * i + 8)) (wordAt s (recordBytes * i + 12))
 
 -- THE TABLE. What it reads, it writes as it stood.
 bit-of-word : (b : ℕ) → T (leb b 1) → bit (eqb b 1) ≡ b
@@ -143,6 +152,20 @@ decode-readAs k a b c =
     jump true h = passed (eqb b 0 && eqb c 0) record′.Jump h
     jump false h = absurd h
 
+-- THE PLACE. Words of the table are those of the record at their place,
+module _ (s : List ℕ) (i : ℕ) where
+  abbrev there : Bool
+  there = inTable (fourWords s i .kind) (fourWords s i .second) (fourWords s i .third) (fourWords s i .fourth)
+
+  pub words-there : T there → encode (recordAt s i) ≡ fourWords s i
+  unfolding recordAt inTable
+  words-there = decode-words (fourWords s i .kind) (fourWords s i .second) (fourWords s i .third) (fourWords s i .fourth)
+
+  -- and others are the words of no record.
+  pub kind-outside : there ≡ false → kind (recordAt s i) ≡ 0
+  unfolding recordAt inTable
+  kind-outside h = let l = nleb→lt 1 (kind (recordAt s i)) (subst (λ b. T (not b)) (sym h) tt) in omega arith
+
 -- THE FILE.
 every : (rs : List Record) → Kinds (λ _. true) rs
 every [] = tt
@@ -162,15 +185,11 @@ module _ (s : List ℕ) (h : T (ordered 0 (records s))) (i : ℕ) (l : i < recor
       subst InTable (record-there s i l) (at (records s) good i (omega arith))
 
   -- the four words of record i stand in the file
-  pub words-at : encode (recordAt s i) ≡ words (wordAt s (recordBytes * i)) (wordAt s (recordBytes * i + 4)) (wordAt s (recordBytes * i + 8)) (wordAt s (recordBytes * i + 12))
+  pub words-at : encode (recordAt s i) ≡ fourWords s i
   unfolding recordAt
-  words-at =
-      let b = recordBytes * i in
-      decode-words (wordAt s b) (wordAt s (b + 4)) (wordAt s (b + 8)) (wordAt s (b + 12)) in-table-at
+  words-at = decode-words (fourWords s i .kind) (fourWords s i .second) (fourWords s i .third) (fourWords s i .fourth) in-table-at
 
   -- and the record is read off them without a test
-  pub record-at : recordAt s i ≡ readAs (wordAt s (recordBytes * i)) (wordAt s (recordBytes * i + 4)) (wordAt s (recordBytes * i + 8)) (wordAt s (recordBytes * i + 12))
+  pub record-at : recordAt s i ≡ readAs (fourWords s i .kind) (fourWords s i .second) (fourWords s i .third) (fourWords s i .fourth)
   unfolding recordAt
-  record-at =
-      let b = recordBytes * i in
-      decode-readAs (wordAt s b) (wordAt s (b + 4)) (wordAt s (b + 8)) (wordAt s (b + 12)) in-table-at
+  record-at = decode-readAs (fourWords s i .kind) (fourWords s i .second) (fourWords s i .third) (fourWords s i .fourth) in-table-at

@@ -8,6 +8,7 @@ ghost use Rattle.rules.specs.File.{ordered};
 ghost use Rattle.records.specs.InTable.{readAs};
 ghost use Rattle.rules.specs.declared.Record.the-variants.{Outside};
 use crate::edge_argument;
+use crate::four_words;
 use crate::word_at;
 use crate::words;
 use rules::RECORD_BYTES;
@@ -27,13 +28,7 @@ pub fn words_at(s: &[u8], k: usize) -> Words
     requires { ⌜ (k < recordCount (now s)) × (ordered 0 (records (now s)) ≡ true) ⌝ }
     ensures { λ w. ⌜ w ≡ encode (recordAt (now (s .entry)) k) ⌝ }
 {
-    let at = RECORD_BYTES * k;
-    words(
-        word_at(s, at),
-        word_at(s, at + 4),
-        word_at(s, at + 8),
-        word_at(s, at + 12),
-    )
+    four_words(s, k)
 }
 
 // The record that four words of the table are.
@@ -82,13 +77,8 @@ pub fn decoded_at(s: &[u8], k: usize) -> Record
     requires { ⌜ (k < recordCount (now s)) × (ordered 0 (records (now s)) ≡ true) ⌝ }
     ensures { λ r. ⌜ r ≡ recordAt (now (s .entry)) k ⌝ }
 {
-    let i = RECORD_BYTES * k;
-    read_words(
-        word_at(s, i),
-        word_at(s, i + 4),
-        word_at(s, i + 8),
-        word_at(s, i + 12),
-    )
+    let w = four_words(s, k);
+    read_words(w.kind, w.second, w.third, w.fourth)
 }
 
 // The words of record k, those of a record outside the table beyond the end.

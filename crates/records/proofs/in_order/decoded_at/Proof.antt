@@ -1,52 +1,25 @@
 -- `records::in_order::decoded_at` meets its contract.
-use Rattle.records.specs.InTable.{record-at}
+use Rattle.records.specs.InTable.{readAs, record-at}
+use Rattle.rules.specs.declared.Words.{Words}
 use lib.Dec.{T}
-use mathlib.Core.Path.{sym, subst}
+use mathlib.Core.Path.{sym, subst, ap, _∙_}
 use borrow.Author.Needs.{needs}
 use Rattle.records.proofs.in_order.decoded_at.Statement.{statement}
 use Rattle.records.proofs.in_order.decoded_at.Tie as tie
 
-mul-i : tie.Need-mul-i
-mul-i c = search needs
-
-word-at-requires : tie.Need-word-at-requires
-word-at-requires c κs = search needs
-
-add-word-at : tie.Need-add-word-at
-add-word-at c = search needs
-
-word-at-requires-2 : tie.Need-word-at-requires-2
-word-at-requires-2 c κs = search needs
-
-add-word-at-2 : tie.Need-add-word-at-2
-add-word-at-2 c = search needs
-
-word-at-requires-3 : tie.Need-word-at-requires-3
-word-at-requires-3 c κs = search needs
-
-add-word-at-3 : tie.Need-add-word-at-3
-add-word-at-3 c = search needs
-
-word-at-requires-4 : tie.Need-word-at-requires-4
-word-at-requires-4 c κs = search needs
+four-words-requires : tie.Need-four-words-requires
+four-words-requires c κs = search needs
 
 read-words-requires : tie.Need-read-words-requires
 read-words-requires c κs = search needs
 
 returns : tie.Need-returns
-returns c = let stand = record-at (c .before .before .before .before .before .before .args .s .now) (subst T (sym (c .before .before .before .before .before .before .pre .1)) tt) (c .before .before .before .before .before .before .args .k) (c .before .before .before .before .before .before .pre .0) in cc
+returns c =
+    let s = c .before .before .before .args .s .now in
+    let k = c .before .before .before .args .k in
+    c .read-words .ensures
+    ∙ ap (λ (w : Words). readAs (w .kind) (w .second) (w .third) (w .fourth)) (c .before .four-words .ensures)
+    ∙ sym (record-at s (subst T (sym (c .before .before .before .pre .1)) tt) k (c .before .before .before .pre .0))
 
 pub decoded-at-spec : {M : Type 1} → statement M
-decoded-at-spec =
-    tie.close
-    (tie.spec
-    mul-i
-    word-at-requires
-    add-word-at
-    word-at-requires-2
-    add-word-at-2
-    word-at-requires-3
-    add-word-at-3
-    word-at-requires-4
-    read-words-requires
-    returns)
+decoded-at-spec = tie.close (tie.spec four-words-requires read-words-requires returns)

@@ -1,8 +1,7 @@
--- `records::record_at` meets its contract.
-use Rattle.rules.specs.Records.{recordAt}
+-- `records::four_words` meets its contract.
 use borrow.Author.Needs.{needs}
-use Rattle.records.proofs.record_at.Statement.{statement}
-use Rattle.records.proofs.record_at.Tie as tie
+use Rattle.records.proofs.four_words.Statement.{statement}
+use Rattle.records.proofs.four_words.Tie as tie
 
 mul-i : tie.Need-mul-i
 mul-i c = search needs
@@ -28,15 +27,14 @@ add-word-at-3 c = search needs
 word-at-requires-4 : tie.Need-word-at-requires-4
 word-at-requires-4 c κs = search needs
 
-decode-words-requires : tie.Need-decode-words-requires
-decode-words-requires c κs = search needs
+words-requires : tie.Need-words-requires
+words-requires c κs = search needs
 
 returns : tie.Need-returns
-unfolding recordAt
 returns c = cc
 
-pub record-at-spec : {M : Type 1} → statement M
-record-at-spec =
+pub four-words-spec : {M : Type 1} → statement M
+four-words-spec =
     tie.close
     (tie.spec
     mul-i
@@ -47,5 +45,5 @@ record-at-spec =
     word-at-requires-3
     add-word-at-3
     word-at-requires-4
-    decode-words-requires
+    words-requires
     returns)

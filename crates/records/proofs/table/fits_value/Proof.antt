@@ -1,8 +1,8 @@
--- `records::fits_value` meets its contract.
+-- `records::table::fits_value` meets its contract.
 use borrow.Author.Tests.{le-leb, lt-leb}
 use native.Mathlib.Omega.{arith}
-use Rattle.records.proofs.fits_value.Statement.{statement}
-use Rattle.records.proofs.fits_value.Tie as tie
+use Rattle.records.proofs.table.fits_value.Statement.{statement}
+use Rattle.records.proofs.table.fits_value.Tie as tie
 
 returns : tie.Need-returns
 returns c = let A = c .before .args in simp (lt-leb 1 A.a (omega arith))

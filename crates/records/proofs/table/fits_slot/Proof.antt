@@ -1,10 +1,10 @@
--- `records::fits_slot` meets its contract.
+-- `records::table::fits_slot` meets its contract.
 use borrow.Author.Needs.{needs}
 use borrow.Author.Tests.{ne-eqb}
 use native.Mathlib.Omega.{arith}
 use mathlib.Core.Path.{_≡_}
-use Rattle.records.proofs.fits_slot.Statement.{statement}
-use Rattle.records.proofs.fits_slot.Tie as tie
+use Rattle.records.proofs.table.fits_slot.Statement.{statement}
+use Rattle.records.proofs.table.fits_slot.Tie as tie
 
 returns : tie.Need-returns
 returns c = let A = c .before .args in let h : A.a ≡ 1 = omega arith in simp h
