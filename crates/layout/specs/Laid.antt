@@ -15,6 +15,7 @@ use Rattle.rules.specs.Liveness.{lists}
 use Rattle.rules.specs.declared.Record.{Record}
 use Rattle.lists.specs.Tests.{is-true}
 use Rattle.graph.specs.Tables.{Given}
+use Rattle.graph.specs.Tails.{TailsLast}
 use Rattle.graph.specs.Blocks.{placeOf, block-head}
 use Rattle.graph.specs.ByTable.{place-at, end-le, start-less}
 use Rattle.rows.specs.Rows.{rowValues}
@@ -25,12 +26,14 @@ use Rattle.writing.specs.Places.{fromTo}
 use Rattle.layout.specs.BlockRuns.{numberAt, number-same, copyAt, blockRun}
 use Rattle.layout.specs.Numbered.{number-behind-run, number-place, number-fits}
 
--- what the writer of blocks reads: the file by its tables, a tag beside each record, and a row for each instruction
+-- what the writer of blocks reads: a file whose blocks' tails stand last, by its tables, a tag beside each record, and a row for
+-- each instruction
 pub record BlockTables (s places index numbers listRows : List ℕ) (values : ℕ) : Type 0 where
   pub tables : IndexTables s places index
   pub beside : recordCount s ≤ length numbers
   pub few : values ≤ rowValues
   pub listsRoom : rowWords * length (lists (functionIn s)) ≤ length listRows
+  pub tails : TailsLast s
 
 -- what is written for block b
 unfoldable pub blockPartAt : (s places numbers slots : List ℕ) → ℕ → (ℕ → NumberSet) → ℕ → List Record

@@ -1,17 +1,21 @@
--- FROM INSTRUCTION TO INSTRUCTION: at the places between nothing is written, and a block's parameters stand before the first one.
+-- FROM INSTRUCTION TO INSTRUCTION: at the places between nothing is written, a block's parameters stand before the first one, and its
+-- landings are those of the edges in its tail.
 use Prim.Native.Nat.{ℕ, zero, suc, _+_, _-_, _<_, _≤_}
-use mathlib.Core.Path.{_≡_, sym, ap, subst, _∙_}
+use mathlib.Core.Path.{_≡_, refl, sym, ap, ap₂, subst, _∙_}
 use mathlib.Core.Bool.{not}
-use mathlib.Core.List.{List, [], _∷_, _++_}
+use mathlib.Core.List.{List, [], _∷_, _++_, append-nil}
 use native.Mathlib.Omega.{arith}
+use native.Mathlib.Numerals.{add-one}
 use lib.ListN.{length, take, drop}
-use lib.Dec.{T, eqb, eqb→eq}
+use lib.Dec.{T, eqb, eqb→eq, ltb, ltb→lt, nltb→le}
 use Rattle.rules.specs.Lists.{NumberSet}
 use Rattle.rules.specs.Records.{kind, recordAt, recordCount}
 use Rattle.rules.specs.declared.Record.{Record}
+use Rattle.lists.specs.Tests.{test-elim}
 use Rattle.records.specs.Leading.{parameters-lead}
 use Rattle.records.specs.Parts.{isInstruction}
 use Rattle.graph.specs.Between.{between, kinds-between}
+use Rattle.graph.specs.Tails.{TailLast, NoTail, tail-none}
 use Rattle.listing.specs.Across.{sectionAt}
 use Rattle.listing.specs.Parted.{runEnd, run-parts, kinds-none}
 use Rattle.listing.specs.Stepping.{BlockRecords}
@@ -19,10 +23,12 @@ use Rattle.writing.specs.declared.parts.Part.{Part}
 use Rattle.writing.specs.declared.parts.Part.the-variants as part
 use Rattle.writing.specs.Next.{nextPlace, nextPlace-bounds, nextPlace-found}
 use Rattle.writing.specs.Parts.{partAt}
-use Rattle.writing.specs.Places.{fromTo, wrote-turn, passed-before, passed-behind}
+use Rattle.writing.specs.Places.{fromTo, fromTo-none, fromTo-more, wrote-turn, passed-before, passed-behind}
 use Rattle.writing.specs.Wrote.{Wrote, wrote-as}
+use Rattle.writing_edges.specs.declared.edges.EdgePart.the-variants as edge
+use Rattle.writing_edges.specs.Edges.{edgePartAt, edge-other}
 use Rattle.writing_instructions.specs.Narrowed.{part-only}
-use Rattle.writing_instructions.specs.Runs.{partsRun, instructionRun}
+use Rattle.writing_instructions.specs.Runs.{partsRun, edgesRun, instructionRun}
 use Rattle.layout.specs.BlockRuns.{numberAt, number-more, number-same, instruction-next, instructionPartAt, instruction-here, instruction-other, landingsRun, landingPartAt, landings-here, landings-other, headRun, blockRun}
 
 -- an instruction starts at a place, unless that is the end, and each one from there on, up to the next, is in order
@@ -95,8 +101,69 @@ module _ (s : List ℕ) (end : ℕ) (m : end ≤ recordCount s) (p : ℕ) (l : p
         ap (λ (n : ℕ). instructionRun s numbers slots (sets n) values p next) same
         ∙ sym (instruction-here s numbers slots values (sets (numberAt s p)) p end next four there)
 
-    pub landings-turn : landingsRun s numbers slots p next ≡ landingPartAt s numbers slots end p
-    landings-turn = sym (landings-here s numbers slots p end next four there)
+-- A BLOCK'S LANDINGS, where its edges, edge arguments and contexts stand behind the rest of it, from place tail on
+module _ (s numbers slots : List ℕ) (from tail end : ℕ) (m : end ≤ recordCount s) (last : TailLast s from end) (low : from ≤ tail) (high : tail ≤ end)
+    (none : NoTail s from tail) (first : tail < end → 7 ≤ kind (recordAt s tail)) where
+  abbrev landing : ℕ → ℕ → List Record
+  landing = edgePartAt s numbers slots edge.Landing
+
+  abbrev landings : ℕ → List Record
+  landings = landingPartAt s numbers slots end
+
+  -- every instruction stands before them,
+  before-tail : (p : ℕ) → from ≤ p → p < end → kind (recordAt s p) ≡ 4 → p < tail
+  before-tail p l u four =
+      test-elim (ltb p tail) (ltb→lt p tail)
+      (λ t.
+      let far = nltb→le p tail t in
+      let other = tail-none s from p end last u (omega (arith, four)) tail low (omega arith) in
+      absurd (omega (arith, other, first (omega arith))))
+
+  -- and no edge does,
+  no-landing : (q i : ℕ) → from ≤ i → i < tail → landing q i ≡ []
+  no-landing q i l u = edge-other s numbers slots edge.Landing i q (λ e. omega (arith, none i l u, e))
+
+  -- so the last instruction's landings are all that there are
+  landings-from :
+      (n p : ℕ) → end ≤ p + n → from ≤ p → p < end → kind (recordAt s p) ≡ 4 → fromTo landings p end ≡ edgesRun s numbers slots edge.Landing tail end
+  landings-from zero p e l u four = absurd (omega arith)
+  landings-from (suc n) p e l u four =
+      let next = nextPlace s 4 (p + 1) end in
+      let ahead = next-place s end m p u next refl in
+      let before = before-tail p l u four in
+      fromTo-more landings p end u
+      ∙ ap₂ (λ (a b : List Record). a ++ b) (landings-here s numbers slots p end next four refl)
+      (ap (λ (i : ℕ). fromTo landings i end) (sym (add-one p))
+      ∙ from-first s landings (λ i other. landings-other s numbers slots i end other) end m (p + 1) (omega arith))
+      ∙ test-elim (ltb next end)
+      (λ t.
+      let less = ltb→lt next end t in
+      let four′ = ahead .2 less in
+      let inside = before-tail next (omega (arith, ahead .0)) less four′ in
+      ap₂ (λ (a b : List Record). a ++ b)
+      (passed-behind (landing next) (p + 1) (p + 1) next (omega arith) (omega (arith, ahead .0)) (λ i a b. no-landing next i (omega arith) (omega arith))
+      ∙ fromTo-none (landing next) (p + 1))
+      (landings-from n next (omega (arith, ahead .0)) (omega (arith, ahead .0)) less four′))
+      (λ t.
+      let far = nltb→le next end t in
+      let same : next ≡ end = omega (arith, ahead .1) in
+      ap (λ (i : ℕ). landingsRun s numbers slots p i ++ fromTo landings i end) same
+      ∙ ap (λ (rs : List Record). landingsRun s numbers slots p end ++ rs) (fromTo-none landings end)
+      ∙ append-nil (landingsRun s numbers slots p end)
+      ∙ passed-before (landing end) (p + 1) tail end (omega arith) high (λ i a b. no-landing end i (omega arith) b))
+
+  pub landings-in-tail : (from < end → kind (recordAt s from) ≡ 4) → fromTo landings from end ≡ edgesRun s numbers slots edge.Landing tail end
+  landings-in-tail starts =
+      test-elim (ltb from end)
+      (λ t.
+      let less = ltb→lt from end t in
+      landings-from (end - from) from (omega arith) (omega arith) less (starts less))
+      (λ t.
+      let far = nltb→le from end t in
+      let here : from ≡ end = omega arith in
+      let there : tail ≡ end = omega arith in
+      ap (λ (i : ℕ). fromTo landings i end) here ∙ fromTo-none landings end
+      ∙ sym (ap (λ (i : ℕ). fromTo (landing end) i end) there ∙ fromTo-none (landing end) end))
 
 -- A BLOCK'S FIRST INSTRUCTION
 module _ (s : List ℕ) (start end : ℕ) (h : BlockRecords s start end) where

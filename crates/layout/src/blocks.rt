@@ -3,20 +3,18 @@ ghost use mathlib.Core.Path.{_≡_};
 ghost use mathlib.Core.Bool.{true};
 ghost use Prim.Native.Nat.{_+_, _*_, _<_, _≤_};
 ghost use lib.ListN.{length};
-ghost use lib.Dec.{T};
 ghost use Rattle.rules.specs.Limits.{rowWords};
 ghost use Rattle.rules.specs.Records.{recordCount, records};
 ghost use Rattle.rules.specs.File.{ordered};
-ghost use Rattle.records.specs.Parts.{isInstruction};
+ghost use Rattle.graph.specs.Tails.{TailLast};
 ghost use Rattle.rows.specs.Rows.{rows, rowValues};
-ghost use Rattle.listing.specs.Across.{sectionAt};
 ghost use Rattle.listing.specs.Stepping.{BlockRecords};
 ghost use Rattle.writing.specs.Parts.{Readable};
 ghost use Rattle.writing.specs.Places.{fromTo};
 ghost use Rattle.writing.specs.Wrote.{room, Wrote};
-ghost use Rattle.layout.specs.BlockRuns.{numberAt, instructionPartAt, landingsRun, landingPartAt, headRun, blockRun, copyAt};
+ghost use Rattle.layout.specs.BlockRuns.{numberAt, instructionPartAt, landingPartAt, headRun, blockRun, copyAt};
 ghost use Rattle.layout.specs.Stepped.{InstructionsFrom};
-use records::in_order::kind_at;
+use graph::edges::tail_from;
 use writing::parts::Part;
 use writing::put::put_copy;
 use writing::run::next_place;
@@ -63,26 +61,7 @@ fn put_instructions(
     at
 }
 
-// The landings of the instruction at place p, which ends before place next. Edges and contexts stand last in it, so by its
-// last record most instructions have none.
-fn put_landings_of(
-    s: &[u8],
-    numbers: &[u32],
-    slots: &[u32],
-    p: usize,
-    next: usize,
-    out: &mut [u8],
-) -> usize
-    requires { ⌜ Readable (now s) (now numbers) × (p < next) × (next ≤ recordCount (now s)) × (room (landingsRun (now s) (now numbers) (now slots) p next) ≤ length (now out)) × T (isInstruction (sectionAt (now s) p next)) ⌝ }
-    ensures { λ r. ⌜ Wrote (now (out .entry)) (landingsRun (now (s .entry)) (now (numbers .entry)) (now (slots .entry)) p next) r (now (out .exit)) ⌝ }
-{
-    if kind_at(s, next - 1) < 7 {
-        return 0;
-    }
-    put_edges(s, numbers, slots, EdgePart::Landing, p + 1, next, out)
-}
-
-// The landings of the instructions from a place on and before place end.
+// The landings of a block whose first instruction stands at place from: those of its edges, which stand in its tail.
 fn put_landings(
     s: &[u8],
     numbers: &[u32],
@@ -91,18 +70,11 @@ fn put_landings(
     end: usize,
     out: &mut [u8],
 ) -> usize
-    requires { ⌜ Readable (now s) (now numbers) × (from ≤ end) × (end ≤ recordCount (now s)) × (room (fromTo (landingPartAt (now s) (now numbers) (now slots) end) from end) ≤ length (now out)) × InstructionsFrom (now s) from end ⌝ }
+    requires { ⌜ Readable (now s) (now numbers) × (from ≤ end) × (end ≤ recordCount (now s)) × (room (fromTo (landingPartAt (now s) (now numbers) (now slots) end) from end) ≤ length (now out)) × InstructionsFrom (now s) from end × TailLast (now s) from end ⌝ }
     ensures { λ r. ⌜ Wrote (now (out .entry)) (fromTo (landingPartAt (now (s .entry)) (now (numbers .entry)) (now (slots .entry)) end) from end) r (now (out .exit)) ⌝ }
 {
-    let mut at = 0;
-    let mut p = from;
-    while p < end {
-        let next = next_place(s, 4, p + 1, end);
-        let n = put_landings_of(s, numbers, slots, p, next, &mut out[at..]);
-        at += n;
-        p = next;
-    }
-    at
+    let tail = tail_from(s, from, end);
+    put_edges(s, numbers, slots, EdgePart::Landing, tail, end, out)
 }
 
 // The record of the block at place p, its parameters, and their stores.
@@ -139,7 +111,7 @@ pub fn put_block(
     end: usize,
     out: &mut [u8],
 ) -> usize
-    requires { ⌜ Readable (now s) (now numbers) × (p < end) × (end ≤ recordCount (now s)) × (rowWords * numberAt (now s) end ≤ length (now lists)) × (values ≤ rowValues) × (first ≡ numberAt (now s) (p + 1)) × (room (blockRun (now s) (now numbers) (now slots) values (rows (now lists)) p end) ≤ length (now out)) × BlockRecords (now s) (p + 1) end ⌝ }
+    requires { ⌜ Readable (now s) (now numbers) × (p < end) × (end ≤ recordCount (now s)) × (rowWords * numberAt (now s) end ≤ length (now lists)) × (values ≤ rowValues) × (first ≡ numberAt (now s) (p + 1)) × (room (blockRun (now s) (now numbers) (now slots) values (rows (now lists)) p end) ≤ length (now out)) × BlockRecords (now s) (p + 1) end × TailLast (now s) (p + 1) end ⌝ }
     ensures { λ r. ⌜ Wrote (now (out .entry)) (blockRun (now (s .entry)) (now (numbers .entry)) (now (slots .entry)) values (rows (now (lists .entry))) p end) r (now (out .exit)) ⌝ }
 {
     let front = next_place(s, 4, p + 1, end);

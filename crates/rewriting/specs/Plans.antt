@@ -27,6 +27,7 @@ use Rattle.agreement.specs.Growing.{Grown, nothing-kept, planned-costs, blockCo
 use Rattle.demand3.specs.Totals.{planMost, cost-few}
 use Rattle.graph.specs.Few.{records-few, values-few, blocks-few, instructions-few}
 use Rattle.graph.specs.ByTable.{place-at, places-long}
+use Rattle.soundness.specs.Tails.{sound-tails}
 use Rattle.rows.specs.Rows.{rows, rowValues, size}
 use Rattle.listing.specs.Ascending.{length-lists-instructions}
 use Rattle.listing.specs.Crossings.{listed}
@@ -150,6 +151,7 @@ module _ {s places index lists′ numbers slots newSizes slotSizes : List ℕ} {
               beside = omega (arith, records-small, h .numbers-long);
               few = omega (arith, values-counted, values-small);
               listsRoom = omega (arith, h .lists-long, h .instructions, instructions-small);
+              tails = sound-tails s in-order (accepted-is s (h .accepted) .isSound);
             };
         valueCount = values-counted;
         blockCount = h .all-counted;

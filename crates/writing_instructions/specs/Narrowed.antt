@@ -1,28 +1,27 @@
 -- An instruction as it is written, each run over its own records only: arguments, results, and what stands behind them.
-use Prim.Native.Nat.{ℕ, suc, _+_, _-_, _<_, _≤_}
-use mathlib.Core.Path.{_≡_, refl, sym, ap, subst, _∙_}
+use Prim.Native.Nat.{ℕ, _+_, _<_, _≤_}
+use mathlib.Core.Path.{_≡_, refl, sym, subst, _∙_}
 use mathlib.Core.Bool.{not}
 use mathlib.Core.List.{List, [], _∷_, _++_}
 use native.Mathlib.Omega.{arith}
 use native.Mathlib.Numerals.{add-one}
-use lib.Dec.{T, eqb, eqb→eq, leb, leb→le}
-use Rattle.rules.specs.Lists.{has, NumberSet, nothing}
+use lib.Dec.{T, eqb, eqb→eq}
+use Rattle.rules.specs.Lists.{NumberSet}
 use Rattle.rules.specs.Records.{kind, encode, recordAt, recordCount}
 use Rattle.rules.specs.File.{functionIn}
 use Rattle.rules.specs.Graph.{sizeOf}
 use Rattle.rules.specs.declared.Record.{Record}
-use Rattle.lists.specs.Tests.{left-out, passes-at}
+use Rattle.lists.specs.Tests.{left-out}
 use Rattle.records.specs.Kinds.{Kinds, kinds-weaken}
 use Rattle.records.specs.Parts.{isInstruction}
 use Rattle.graph.specs.Between.{between, kinds-between}
-use Rattle.blocksets.specs.Instructions.{inInstruction, body-kinds}
 use Rattle.listing.specs.Across.{sectionAt}
 use Rattle.listing.specs.Parted.{runEnd, Parted, kinds-none, parted-by}
 use Rattle.numbering.specs.Beside.{madeAt}
 use Rattle.writing.specs.declared.parts.Part.{Part}
 use Rattle.writing.specs.declared.parts.Part.the-variants as part
 use Rattle.writing.specs.Parts.{slotIn, partAt, partRecords}
-use Rattle.writing.specs.Places.{fromTo, fromTo-none, passed-before, passed-behind}
+use Rattle.writing.specs.Places.{fromTo, passed-before, passed-behind}
 use Rattle.writing_edges.specs.declared.edges.EdgePart.{EdgePart}
 use Rattle.writing_edges.specs.declared.edges.EdgePart.the-variants as edge
 use Rattle.writing_edges.specs.Edges.{edgePartAt, edge-other}
@@ -120,28 +119,3 @@ module _ (s : List ℕ) (p q : ℕ) (l : p < q) (m : q ≤ recordCount s) (h : T
   pub instruction-narrowed :
       (numbers slots : List ℕ) (set : NumberSet) (values : ℕ) → instructionRun s numbers slots set values p q ≡ instructionIn s numbers slots set values p a b q
   instruction-narrowed numbers slots set values = runs-same s numbers slots set values p q a b runs-parted
-
-  -- what stands behind the results goes to the end
-  exit-last : kind (recordAt s (q - 1)) < 7 → b < q → ⊥
-  exit-last below l =
-      let x = runs-parted in
-      let j = kind (recordAt s (q - 1)) in
-      let inside = kinds-between s inInstruction (suc p) q m (body-kinds (functionIn s) (sectionAt s p q) h) (q - 1) (omega (arith, x .low, x .middle)) (omega arith) in
-      let no-argument = kinds-between s (λ i. not (eqb i 6)) a q m (kinds-none 6 (between s a q) (x .noArguments)) (q - 1) (omega (arith, x .middle)) (omega arith) in
-      let no-result = kinds-between s (λ i. not (eqb i 5)) b q m (kinds-none 5 (between s b q) (x .noResults)) (q - 1) (omega arith) (omega arith) in
-      let five : 5 ≤ j = leb→le 5 j (passes-at (leb 5) (5 ∷ 6 ∷ 7 ∷ 8 ∷ 9 ∷ []) tt j inside) in
-      let not-six : j ≡ 6 → ⊥ = λ e. subst (λ (n : ℕ). T (not (eqb n 6))) e no-argument in
-      let not-five : j ≡ 5 → ⊥ = λ e. subst (λ (n : ℕ). T (not (eqb n 5))) e no-result in
-      omega (arith, below, five, not-six, not-five)
-
--- where its last record is of no edge and no context, it has no edge
-pub edges-none :
-    (s numbers slots : List ℕ) (y : EdgePart) (p q : ℕ) → p < q → q ≤ recordCount s → T (isInstruction (sectionAt s p q)) → kind (recordAt s (q - 1)) < 7
-    → edgesRun s numbers slots y (p + 1) q ≡ []
-edges-none s numbers slots y p q l m h below =
-    let a = runEnd s 6 (p + 1) q in
-    let b = runEnd s 5 a q in
-    let x = runs-parted s p q l m h a b refl refl in
-    let all-passed : b ≡ q = omega (arith, x .high, exit-last s p q l m h a b refl refl below) in
-    edge-run s numbers slots nothing 0 p q a b x y
-    ∙ ap (λ (n : ℕ). fromTo (edgePartAt s numbers slots y q) n q) all-passed ∙ fromTo-none (edgePartAt s numbers slots y q) q

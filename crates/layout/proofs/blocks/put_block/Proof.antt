@@ -6,6 +6,7 @@ use Rattle.rules.specs.declared.Record.{Record}
 use Rattle.writing.specs.Wrote.{room, first-fits, written-le, next-fits, both-le, wrote-then, wrote-as}
 use lib.ListN.{length}
 use Prim.Native.Nat.{_+_, _≤_}
+use Rattle.graph.specs.Tails.{tailLast-later}
 use Rattle.rows.specs.Rows.{rows}
 use Rattle.writing.specs.Places.{fromTo}
 use Rattle.writing.specs.Next.{nextPlace-bounds}
@@ -128,7 +129,7 @@ put-landings-requires c κs =
     let w1 = c .before .before .before .before .before .before .before .put-head .ensures in
     let w2 = wrote-then w1 (written-le w1 b2 h2) (c .before .before .before .put-instructions .ensures) in
     let within = nextPlace-bounds (c .before .before .before .before .before .before .before .before .before .before .before .before .before .before .before .args .s .now) 4 ((c .before .before .before .before .before .before .before .before .before .before .before .before .before .before .before .args .p) + 1) (c .before .before .before .before .before .before .before .before .before .before .before .before .before .before .before .args .end) (c .before .before .before .before .before .before .before .before .before .before .before .before .before .before .before .pre .7 .ascends) (c .before .before .before .before .before .before .before .before .before .before .before .before .before .before .before .pre .2) in
-    (c .before .before .before .before .before .before .before .before .before .before .before .before .before .before .before .pre .0, omega (arith, within .1, c .before .before .before .before .before .before .before .before .before .next-place .ensures), c .before .before .before .before .before .before .before .before .before .before .before .before .before .before .before .pre .2, next-fits w2 b3 h3, subst (λ n. InstructionsFrom (c .before .before .before .before .before .before .before .before .before .before .before .before .before .before .before .args .s .now) n (c .before .before .before .before .before .before .before .before .before .before .before .before .before .before .before .args .end)) (sym (c .before .before .before .before .before .before .before .before .before .next-place .ensures)) (instructions-behind (c .before .before .before .before .before .before .before .before .before .before .before .before .before .before .before .args .s .now) ((c .before .before .before .before .before .before .before .before .before .before .before .before .before .before .before .args .p) + 1) (c .before .before .before .before .before .before .before .before .before .before .before .before .before .before .before .args .end) (c .before .before .before .before .before .before .before .before .before .before .before .before .before .before .before .pre .7)))
+    (c .before .before .before .before .before .before .before .before .before .before .before .before .before .before .before .pre .0, omega (arith, within .1, c .before .before .before .before .before .before .before .before .before .next-place .ensures), c .before .before .before .before .before .before .before .before .before .before .before .before .before .before .before .pre .2, next-fits w2 b3 h3, subst (λ n. InstructionsFrom (c .before .before .before .before .before .before .before .before .before .before .before .before .before .before .before .args .s .now) n (c .before .before .before .before .before .before .before .before .before .before .before .before .before .before .before .args .end)) (sym (c .before .before .before .before .before .before .before .before .before .next-place .ensures)) (instructions-behind (c .before .before .before .before .before .before .before .before .before .before .before .before .before .before .before .args .s .now) ((c .before .before .before .before .before .before .before .before .before .before .before .before .before .before .before .args .p) + 1) (c .before .before .before .before .before .before .before .before .before .before .before .before .before .before .before .args .end) (c .before .before .before .before .before .before .before .before .before .before .before .before .before .before .before .pre .7)), tailLast-later (c .before .before .before .before .before .before .before .before .before .before .before .before .before .before .before .args .s .now) ((c .before .before .before .before .before .before .before .before .before .before .before .before .before .before .before .args .p) + 1) front (c .before .before .before .before .before .before .before .before .before .before .before .before .before .before .before .args .end) (omega (arith, within .0, c .before .before .before .before .before .before .before .before .before .next-place .ensures)) (c .before .before .before .before .before .before .before .before .before .before .before .before .before .before .before .pre .8))
 
 add-result : tie.Need-add-result
 add-result c =

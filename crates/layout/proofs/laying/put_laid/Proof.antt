@@ -1,6 +1,6 @@
 -- `layout::laying::put_laid` meets its contract.
 use Rattle.layout.specs.Laid.{tables-readable, part-planned, part-copied, number-first, rows-fit}
-use Rattle.graph.specs.ByTable.{places-long, end-le, start-less}
+use Rattle.graph.specs.ByTable.{places-long, end-le, start-less, block-tail}
 use Rattle.listing.specs.Tables.{block-records}
 use Rattle.writing.specs.Wrote.{wrote-as}
 use Rattle.rows.specs.Rows.{rows}
@@ -43,7 +43,7 @@ returns : tie.Need-returns
 returns c = wrote-as _ _ (sym (part-copied (c .before .before .before .before .before .before .before .before .before .before .before .before .before .before .before .pre .0) (c .before .before .before .before .before .before .before .before .before .before .before .before .before .before .before .args .b) (c .before .before .before .before .before .before .before .before .before .before .before .before .before .before .before .pre .1) (c .before .before .before .before .before .before .before .before .before .before .before .before .before .before .before .args .slots .now) (rows (c .before .before .before .before .before .before .before .before .before .before .before .before .before .before .before .args .lists .now)) (c .before .before .before .before .if1 .taken))) (c .before .before .copy-records .ensures)
 
 put-block-requires : tie.Need-put-block-requires
-put-block-requires c κs = (tables-readable (c .before .before .before .before .before .before .before .before .before .before .before .before .pre .0), omega (arith, start-less (c .before .before .before .before .before .before .before .before .before .before .before .before .args .s .now) (c .before .before .before .before .before .before .before .before .before .before .before .before .args .places .now) (c .before .before .before .before .before .before .before .before .before .before .before .before .pre .0 .tables .given) (c .before .before .before .before .before .before .before .before .before .before .before .before .args .b) (c .before .before .before .before .before .before .before .before .before .before .before .before .pre .1)), end-le (c .before .before .before .before .before .before .before .before .before .before .before .before .args .s .now) (c .before .before .before .before .before .before .before .before .before .before .before .before .args .places .now) (c .before .before .before .before .before .before .before .before .before .before .before .before .pre .0 .tables .given) (c .before .before .before .before .before .before .before .before .before .before .before .before .args .b) (c .before .before .before .before .before .before .before .before .before .before .before .before .pre .1), rows-fit (c .before .before .before .before .before .before .before .before .before .before .before .before .pre .0) (c .before .before .before .before .before .before .before .before .before .before .before .before .args .b) (c .before .before .before .before .before .before .before .before .before .before .before .before .pre .1), c .before .before .before .before .before .before .before .before .before .before .before .before .pre .0 .few, c .before .before .before .before .before .before .before .before .before .before .before .before .pre .2 ∙ sym (number-first (c .before .before .before .before .before .before .before .before .before .before .before .before .pre .0 .tables .given) (c .before .before .before .before .before .before .before .before .before .before .before .before .args .b) (c .before .before .before .before .before .before .before .before .before .before .before .before .pre .1)), omega (arith, c .before .before .before .before .before .before .before .before .before .before .before .before .pre .3, ap length (part-planned (c .before .before .before .before .before .before .before .before .before .before .before .before .pre .0) (c .before .before .before .before .before .before .before .before .before .before .before .before .args .b) (c .before .before .before .before .before .before .before .before .before .before .before .before .pre .1) (c .before .before .before .before .before .before .before .before .before .before .before .before .args .slots .now) (rows (c .before .before .before .before .before .before .before .before .before .before .before .before .args .lists .now)) (c .before .if1 .left))), block-records (c .before .before .before .before .before .before .before .before .before .before .before .before .pre .0 .tables) (c .before .before .before .before .before .before .before .before .before .before .before .before .args .b) (c .before .before .before .before .before .before .before .before .before .before .before .before .pre .1))
+put-block-requires c κs = (tables-readable (c .before .before .before .before .before .before .before .before .before .before .before .before .pre .0), omega (arith, start-less (c .before .before .before .before .before .before .before .before .before .before .before .before .args .s .now) (c .before .before .before .before .before .before .before .before .before .before .before .before .args .places .now) (c .before .before .before .before .before .before .before .before .before .before .before .before .pre .0 .tables .given) (c .before .before .before .before .before .before .before .before .before .before .before .before .args .b) (c .before .before .before .before .before .before .before .before .before .before .before .before .pre .1)), end-le (c .before .before .before .before .before .before .before .before .before .before .before .before .args .s .now) (c .before .before .before .before .before .before .before .before .before .before .before .before .args .places .now) (c .before .before .before .before .before .before .before .before .before .before .before .before .pre .0 .tables .given) (c .before .before .before .before .before .before .before .before .before .before .before .before .args .b) (c .before .before .before .before .before .before .before .before .before .before .before .before .pre .1), rows-fit (c .before .before .before .before .before .before .before .before .before .before .before .before .pre .0) (c .before .before .before .before .before .before .before .before .before .before .before .before .args .b) (c .before .before .before .before .before .before .before .before .before .before .before .before .pre .1), c .before .before .before .before .before .before .before .before .before .before .before .before .pre .0 .few, c .before .before .before .before .before .before .before .before .before .before .before .before .pre .2 ∙ sym (number-first (c .before .before .before .before .before .before .before .before .before .before .before .before .pre .0 .tables .given) (c .before .before .before .before .before .before .before .before .before .before .before .before .args .b) (c .before .before .before .before .before .before .before .before .before .before .before .before .pre .1)), omega (arith, c .before .before .before .before .before .before .before .before .before .before .before .before .pre .3, ap length (part-planned (c .before .before .before .before .before .before .before .before .before .before .before .before .pre .0) (c .before .before .before .before .before .before .before .before .before .before .before .before .args .b) (c .before .before .before .before .before .before .before .before .before .before .before .before .pre .1) (c .before .before .before .before .before .before .before .before .before .before .before .before .args .slots .now) (rows (c .before .before .before .before .before .before .before .before .before .before .before .before .args .lists .now)) (c .before .if1 .left))), block-records (c .before .before .before .before .before .before .before .before .before .before .before .before .pre .0 .tables) (c .before .before .before .before .before .before .before .before .before .before .before .before .args .b) (c .before .before .before .before .before .before .before .before .before .before .before .before .pre .1), block-tail (c .before .before .before .before .before .before .before .before .before .before .before .before .args .s .now) (c .before .before .before .before .before .before .before .before .before .before .before .before .args .places .now) (c .before .before .before .before .before .before .before .before .before .before .before .before .pre .0 .tables .given) (c .before .before .before .before .before .before .before .before .before .before .before .before .args .b) (c .before .before .before .before .before .before .before .before .before .before .before .before .pre .1) (c .before .before .before .before .before .before .before .before .before .before .before .before .pre .0 .tails))
 
 same-length-2 : tie.Need-same-length-2
 same-length-2 c = search needs
