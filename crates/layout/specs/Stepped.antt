@@ -27,7 +27,8 @@ use Rattle.writing.specs.Places.{fromTo, fromTo-none, fromTo-more, wrote-turn, 
 use Rattle.writing.specs.Wrote.{Wrote, wrote-as}
 use Rattle.writing_edges.specs.declared.edges.EdgePart.the-variants as edge
 use Rattle.writing_edges.specs.Edges.{edgePartAt, edge-other}
-use Rattle.writing_instructions.specs.Narrowed.{part-only}
+use Rattle.writing_instructions.specs.declared.instructions.InstructionRuns.{InstructionRuns}
+use Rattle.writing_instructions.specs.Narrowed.{part-only, instructionIn, runsOf, instruction-narrowed}
 use Rattle.writing_instructions.specs.Runs.{partsRun, edgesRun, instructionRun}
 use Rattle.layout.specs.BlockRuns.{numberAt, number-more, number-same, instruction-next, instructionPartAt, instruction-here, instruction-other, landingsRun, landingPartAt, landings-here, landings-other, headRun, blockRun}
 
@@ -92,14 +93,18 @@ module _ (s : List ℕ) (end : ℕ) (m : end ≤ recordCount s) (p : ℕ) (l : p
       wrote-as (fromTo g from (p + 1)) (fromTo g from next) (sym (ap (fromTo g from) there ∙ up-to-next s g only end m from p low l))
       (wrote-turn g from p low rs same w u v)
 
-  -- what it writes itself
-  module _ (numbers slots : List ℕ) (four : kind (recordAt s p) ≡ 4) where
-    pub instruction-turn :
-        (values : ℕ) (sets : ℕ → NumberSet) (number : ℕ) → number ≡ numberAt s p
-        → instructionRun s numbers slots (sets number) values p next ≡ instructionPartAt s numbers slots values sets end p
-    instruction-turn values sets number same =
-        ap (λ (n : ℕ). instructionRun s numbers slots (sets n) values p next) same
-        ∙ sym (instruction-here s numbers slots values (sets (numberAt s p)) p end next four there)
+-- what it writes itself, by the instruction's runs
+pub instruction-turn :
+    (s : List ℕ) (end : ℕ) → end ≤ recordCount s → (p : ℕ) → p < end → kind (recordAt s p) ≡ 4 → T (isInstruction (sectionAt s p (nextPlace s 4 (p + 1) end)))
+    → (runs : InstructionRuns) → runs ≡ runsOf s p end
+    → (numbers slots : List ℕ) (values : ℕ) (sets : ℕ → NumberSet) (number : ℕ) → number ≡ numberAt s p
+    → instructionIn s numbers slots (sets number) values (runs .place) (runs .results) (runs .exits) (runs .end)
+    ≡ instructionPartAt s numbers slots values sets end p
+instruction-turn s end m p l four h runs found numbers slots values sets number same =
+    let next = nextPlace s 4 (p + 1) end in
+    instruction-narrowed s p end l m h runs found numbers slots (sets number) values
+    ∙ ap (λ (n : ℕ). instructionRun s numbers slots (sets n) values p next) same
+    ∙ sym (instruction-here s numbers slots values (sets (numberAt s p)) p end next four refl)
 
 -- A BLOCK'S LANDINGS, where its edges, edge arguments and contexts stand behind the rest of it, from place tail on
 module _ (s numbers slots : List ℕ) (from tail end : ℕ) (m : end ≤ recordCount s) (last : TailLast s from end) (low : from ≤ tail) (high : tail ≤ end)

@@ -21,6 +21,7 @@ use writing::run::next_place;
 use writing::run::put_parts;
 use writing_edges::edges::EdgePart;
 use writing_edges::edges::put_edges;
+use writing_instructions::instructions::instruction_runs;
 use writing_instructions::instructions::put_instruction;
 
 // The instructions from a place on and before place end, the first one first; the number of the first one is given.
@@ -42,7 +43,8 @@ fn put_instructions(
     let mut number = first;
     let mut p = from;
     while p < end {
-        let next = next_place(s, 4, p + 1, end);
+        let runs = instruction_runs(s, p, end);
+        let next = runs.end;
         let n = put_instruction(
             s,
             numbers,
@@ -50,8 +52,7 @@ fn put_instructions(
             lists,
             values,
             number,
-            p,
-            next,
+            runs,
             &mut out[at..],
         );
         at += n;

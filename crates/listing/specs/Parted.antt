@@ -7,14 +7,14 @@ use mathlib.Core.List.{List, [], _∷_, _++_, append-nil}
 use native.Mathlib.Omega.{arith}
 use native.Mathlib.Numerals.{add-one}
 use lib.ListN.{length, drop}
-use lib.Dec.{T, eqb, eqb→eq}
+use lib.Dec.{T, T-not, eqb, eqb→eq, ltb, ltb→lt, nltb→le}
 use borrow.Author.Tests.{eq-eqb, ne-eqb}
 use Rattle.rules.specs.Lists.{all, has}
 use Rattle.rules.specs.Records.{encode, kind, recordAt, recordCount}
 use Rattle.rules.specs.File.{followers, follows, ofKind}
 use Rattle.rules.specs.declared.Record.{Record}
 use Rattle.rules.specs.declared.Words.{Words}
-use Rattle.lists.specs.Tests.{and-right, and-intro, T-and, passes-at}
+use Rattle.lists.specs.Tests.{test-elim, eq→eqb, and-right, and-intro, T-and, passes-at}
 use Rattle.lists.specs.Maps.{all-apart, all-and}
 use Rattle.records.specs.InOrder.{chain, keptBy}
 use Rattle.records.specs.Kinds.{Kinds, ofKind-append, ofKind-none, kinds-weaken}
@@ -50,6 +50,27 @@ module _ (s : List ℕ) (k : ℕ) where
         let more : length (leading k (between s p q)) ≡ suc (length (leading k (between s (p + 1) q))) =
         ap (λ (rs : List Record). length (leading k rs)) (between-next s p q l m) ∙ ap (λ (b : Bool). length (led b)) (eq-eqb (kind (recordAt s p)) k same) in
         omega (arith, more)
+
+  -- and by a nearer end the same, if no record of the kind stands there
+  pub run-nearer :
+      (n p r q : ℕ) → p + n ≡ r → r ≤ q → q ≤ recordCount s → (r < q → kind (recordAt s r) ≡ k → ⊥) → runEnd s k p q ≡ runEnd s k p r
+  run-nearer zero p r q e l m stops =
+      let same : p ≡ r = omega arith in
+      test-elim (ltb r q)
+      (λ t.
+      let less = ltb→lt r q t in
+      sym (run-ends p q (omega arith) m (λ y. stops less (ap (λ (i : ℕ). kind (recordAt s i)) (sym same) ∙ y))) ∙ run-none p r same)
+      (λ t.
+      let far = nltb→le r q t in
+      sym (run-none p q (omega arith)) ∙ run-none p r same)
+  run-nearer (suc n) p r q e l m stops =
+      test-elim (eqb (kind (recordAt s p)) k)
+      (λ t.
+      let here = eqb→eq (kind (recordAt s p)) k t in
+      sym (run-goes p q (omega arith) m here) ∙ run-nearer n (p + 1) r q (omega arith) l m stops ∙ run-goes p r (omega arith) (omega arith) here)
+      (λ t.
+      let other : kind (recordAt s p) ≡ k → ⊥ = λ y. T-not (eqb (kind (recordAt s p)) k) t (eq→eqb y) in
+      sym (run-ends p q (omega arith) m other) ∙ run-ends p r (omega arith) (omega arith) other)
 
   -- the records before it are of the kind, and where all of the kind lead none stands behind it
   run-from :

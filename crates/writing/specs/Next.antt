@@ -74,3 +74,13 @@ module _ (s : List ℕ) (k q : ℕ) (m : q ≤ recordCount s) where
   -- the next place is so
   pub nextPlace-found : (p : ℕ) → p ≤ q → Found p (nextPlace s k p q)
   nextPlace-found p l = found-from (q - p) p (omega arith)
+
+  -- and so from a later place on that is not behind it
+  pub nextPlace-from : (n p r : ℕ) → p + n ≡ r → p ≤ q → r ≤ nextPlace s k p q → nextPlace s k r q ≡ nextPlace s k p q
+  nextPlace-from zero p r e l u =
+      let same : r ≡ p = omega arith in
+      ap (λ (i : ℕ). nextPlace s k i q) same
+  nextPlace-from (suc n) p r e l u =
+      let within = nextPlace-bounds s k p q l m in
+      let later = nextPlace-later s k p q (omega (arith, within .1)) m (nextPlace-found p l .1 p (omega arith) (omega arith)) in
+      nextPlace-from n (p + 1) r (omega arith) (omega (arith, within .1)) (subst (λ (i : ℕ). r ≤ i) later u) ∙ sym later

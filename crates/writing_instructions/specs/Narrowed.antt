@@ -1,6 +1,6 @@
 -- An instruction as it is written, each run over its own records only: arguments, results, and what stands behind them.
-use Prim.Native.Nat.{ℕ, _+_, _<_, _≤_}
-use mathlib.Core.Path.{_≡_, refl, sym, subst, _∙_}
+use Prim.Native.Nat.{ℕ, _+_, _-_, _<_, _≤_}
+use mathlib.Core.Path.{_≡_, refl, sym, ap, subst, _∙_}
 use mathlib.Core.Bool.{not}
 use mathlib.Core.List.{List, [], _∷_, _++_}
 use native.Mathlib.Omega.{arith}
@@ -16,15 +16,17 @@ use Rattle.records.specs.Kinds.{Kinds, kinds-weaken}
 use Rattle.records.specs.Parts.{isInstruction}
 use Rattle.graph.specs.Between.{between, kinds-between}
 use Rattle.listing.specs.Across.{sectionAt}
-use Rattle.listing.specs.Parted.{runEnd, Parted, kinds-none, parted-by}
+use Rattle.listing.specs.Parted.{runEnd, run-nearer, Parted, kinds-none, parted-by}
 use Rattle.numbering.specs.Beside.{madeAt}
 use Rattle.writing.specs.declared.parts.Part.{Part}
 use Rattle.writing.specs.declared.parts.Part.the-variants as part
+use Rattle.writing.specs.Next.{nextPlace, nextPlace-bounds, nextPlace-found, nextPlace-from}
 use Rattle.writing.specs.Parts.{slotIn, partAt, partRecords}
 use Rattle.writing.specs.Places.{fromTo, passed-before, passed-behind}
 use Rattle.writing_edges.specs.declared.edges.EdgePart.{EdgePart}
 use Rattle.writing_edges.specs.declared.edges.EdgePart.the-variants as edge
 use Rattle.writing_edges.specs.Edges.{edgePartAt, edge-other}
+use Rattle.writing_instructions.specs.declared.instructions.InstructionRuns.{InstructionRuns}
 use Rattle.writing_instructions.specs.Entries.{entriesBelow}
 use Rattle.writing_instructions.specs.Runs.{partsRun, edgesRun, exitsRun, instructionRun}
 
@@ -110,12 +112,63 @@ module _ (s numbers slots : List ℕ) where
         ++ entriesBelow (sizeOf (functionIn s)) (slotIn slots) set values))
         ++ result-run part.Store j
 
--- AN INSTRUCTION BY ITS RUNS, where loops find their ends.
-module _ (s : List ℕ) (p q : ℕ) (l : p < q) (m : q ≤ recordCount s) (h : T (isInstruction (sectionAt s p q))) (a b : ℕ)
-    (first : a ≡ runEnd s 6 (p + 1) q) (then : b ≡ runEnd s 5 a q) where
-  runs-parted : Parted s (p + 1) q a b
-  runs-parted = subst (λ (n : ℕ). Parted s n q a b) (sym (add-one p)) (parted-by s p q l m h a b first then)
+-- where the runs of the instruction at place p stand, in a block whose records end before place q: it ends before the next one
+abbrev pub runsOf : List ℕ → ℕ → ℕ → InstructionRuns
+runsOf s p q =
+    let next = nextPlace s 4 (p + 1) q in
+    let results = runEnd s 6 (p + 1) next in
+    record { place = p; results = results; exits = runEnd s 5 results next; end = next }
 
-  pub instruction-narrowed :
-      (numbers slots : List ℕ) (set : NumberSet) (values : ℕ) → instructionRun s numbers slots set values p q ≡ instructionIn s numbers slots set values p a b q
-  instruction-narrowed numbers slots set values = runs-same s numbers slots set values p q a b runs-parted
+-- AN INSTRUCTION BY ITS RUNS
+module _ (s : List ℕ) (p q : ℕ) (l : p < q) (m : q ≤ recordCount s) (h : T (isInstruction (sectionAt s p (nextPlace s 4 (p + 1) q)))) where
+  abbrev next : ℕ
+  next = nextPlace s 4 (p + 1) q
+
+  after : p + 1 ≤ q
+  after = omega arith
+
+  within : (p + 1 ≤ next) × (next ≤ q)
+  within = nextPlace-bounds s 4 (p + 1) q after m
+
+  runs-parted : (a b : ℕ) → a ≡ runEnd s 6 (p + 1) next → b ≡ runEnd s 5 a next → Parted s (p + 1) next a b
+  runs-parted a b first then =
+      subst (λ (n : ℕ). Parted s n next a b) (sym (add-one p))
+      (parted-by s p next (omega (arith, within .0)) (omega (arith, within .1, m)) h a b first then)
+
+  -- by the block's end a run ends there too, since the next instruction is of no run
+  run-within : (k a : ℕ) → T (not (eqb 4 k)) → a ≤ next → runEnd s k a q ≡ runEnd s k a next
+  run-within k a other u =
+      run-nearer s k (next - a) a next q (omega arith) (within .1) m
+      (λ less e.
+      subst (λ (i : ℕ). T (not (eqb 4 i))) (sym e ∙ nextPlace-found s 4 q m (p + 1) after .0 less) other)
+
+  -- AS LOOPS FIND THEM: by the block's end, and the next instruction behind them
+  pub runs-found :
+      (a b n : ℕ) → a ≡ runEnd s 6 (p + 1) q → b ≡ runEnd s 5 a q → n ≡ nextPlace s 4 b q
+      → _≡_ {A = InstructionRuns} (record { place = p; results = a; exits = b; end = n }) (runsOf s p q)
+  runs-found a b n first then last =
+      let results : a ≡ runEnd s 6 (p + 1) next = first ∙ run-within 6 (p + 1) tt (within .0) in
+      let front = runs-parted a (runEnd s 5 a next) results refl in
+      let exits : b ≡ runEnd s 5 a next = then ∙ run-within 5 a tt (omega (arith, front .middle, front .high)) in
+      let x = runs-parted a b results exits in
+      let end : n ≡ next = last ∙ nextPlace-from s 4 q m (b - (p + 1)) (p + 1) b (omega (arith, x .low, x .middle)) after (x .high) in
+      let behind : b ≡ runEnd s 5 (runEnd s 6 (p + 1) next) next = exits ∙ ap (λ (i : ℕ). runEnd s 5 i next) results in
+      λ j. record { place = p; results = results j; exits = behind j; end = end j }
+
+  module _ (r : InstructionRuns) (e : r ≡ runsOf s p q) where
+    abbrev known : Parted s (p + 1) next (runsOf s p q .results) (runsOf s p q .exits)
+    known = runs-parted (runsOf s p q .results) (runsOf s p q .exits) refl refl
+
+    -- they stand one behind the other,
+    pub runs-inside : (r .place < r .results) × (r .results ≤ r .exits) × (r .exits ≤ r .end) × (r .end ≤ q)
+    runs-inside =
+        subst (λ (i : InstructionRuns). (i .place < i .results) × (i .results ≤ i .exits) × (i .exits ≤ i .end) × (i .end ≤ q)) (sym e)
+        (omega (arith, known .low), known .middle, known .high, within .1)
+
+    -- and all of the instruction is written from them
+    pub instruction-narrowed :
+        (numbers slots : List ℕ) (set : NumberSet) (values : ℕ)
+        → instructionIn s numbers slots set values (r .place) (r .results) (r .exits) (r .end) ≡ instructionRun s numbers slots set values p next
+    instruction-narrowed numbers slots set values =
+        ap (λ (i : InstructionRuns). instructionIn s numbers slots set values (i .place) (i .results) (i .exits) (i .end)) e
+        ∙ sym (runs-same s numbers slots set values p next (runsOf s p q .results) (runsOf s p q .exits) known)

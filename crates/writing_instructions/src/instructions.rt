@@ -1,19 +1,24 @@
 // One instruction: loads before it, its record with what belongs to it and its map, stores behind it.
-ghost use Prim.Native.Nat.{_<_, _≤_};
+ghost use mathlib.Core.Path.{_≡_};
+ghost use mathlib.Core.Bool.{true};
+ghost use Prim.Native.Nat.{_+_, _<_, _≤_};
 ghost use lib.ListN.{length};
 ghost use lib.Dec.{T};
-ghost use Rattle.rules.specs.Records.{recordCount};
+ghost use Rattle.rules.specs.Records.{recordCount, records};
+ghost use Rattle.rules.specs.File.{ordered};
 ghost use Rattle.records.specs.Parts.{isInstruction};
 ghost use Rattle.rows.specs.Rows.{rows, rowValues, HasRow};
 ghost use Rattle.listing.specs.Across.{sectionAt};
+ghost use Rattle.writing.specs.Next.{nextPlace};
 ghost use Rattle.writing.specs.Parts.{Readable};
 ghost use Rattle.writing.specs.Wrote.{room, Wrote};
-ghost use Rattle.writing_instructions.specs.Runs.{exitsRun, instructionRun};
-ghost use Rattle.writing_instructions.specs.Narrowed.{loadsIn, operandsIn, itselfIn, instructionIn};
+ghost use Rattle.writing_instructions.specs.Runs.{exitsRun};
+ghost use Rattle.writing_instructions.specs.Narrowed.{loadsIn, operandsIn, itselfIn, instructionIn, runsOf};
 use crate::entries::put_entries;
 use listing::runs::run_end;
 use writing::parts::Part;
 use writing::put::put_copy;
+use writing::run::next_place;
 use writing::run::put_parts;
 use writing_edges::edges::EdgePart;
 use writing_edges::edges::put_edges;
@@ -25,6 +30,22 @@ pub struct InstructionRuns {
     pub results: usize,
     pub exits: usize,
     pub end: usize,
+}
+
+// The runs of the instruction at place p, in a block whose records end before place end. Its arguments and results end before
+// the next instruction, which is looked for behind them.
+pub fn instruction_runs(s: &[u8], p: usize, end: usize) -> InstructionRuns
+    requires { ⌜ (p < end) × (end ≤ recordCount (now s)) × (ordered 0 (records (now s)) ≡ true) × T (isInstruction (sectionAt (now s) p (nextPlace (now s) 4 (p + 1) end))) ⌝ }
+    ensures { λ r. ⌜ r ≡ runsOf (now (s .entry)) p end ⌝ }
+{
+    let results = run_end(s, 6, p + 1, end);
+    let exits = run_end(s, 5, results, end);
+    InstructionRuns {
+        place: p,
+        results,
+        exits,
+        end: next_place(s, 4, exits, end),
+    }
 }
 
 // The loads that an instruction asks for: of its arguments, which stand before its results, and of what its edges pass.
@@ -139,7 +160,7 @@ fn put_itself(
 }
 
 // The instruction with its loads and stores, each over its own run; its list is row i.
-fn put_runs(
+pub fn put_instruction(
     s: &[u8],
     numbers: &[u32],
     slots: &[u32],
@@ -168,30 +189,4 @@ fn put_runs(
         &mut out[ab..],
     );
     ab + c
-}
-
-// The instruction at place p with its loads and stores; its list is row i.
-pub fn put_instruction(
-    s: &[u8],
-    numbers: &[u32],
-    slots: &[u32],
-    lists: &[u64],
-    values: usize,
-    i: usize,
-    p: usize,
-    end: usize,
-    out: &mut [u8],
-) -> usize
-    requires { ⌜ Readable (now s) (now numbers) × (p < end) × (end ≤ recordCount (now s)) × HasRow (now lists) i × (values ≤ rowValues) × (room (instructionRun (now s) (now numbers) (now slots) (rows (now lists) i) values p end) ≤ length (now out)) × T (isInstruction (sectionAt (now s) p end)) ⌝ }
-    ensures { λ r. ⌜ Wrote (now (out .entry)) (instructionRun (now (s .entry)) (now (numbers .entry)) (now (slots .entry)) (rows (now (lists .entry)) i) values p end) r (now (out .exit)) ⌝ }
-{
-    let results = run_end(s, 6, p + 1, end);
-    let exits = run_end(s, 5, results, end);
-    let at = InstructionRuns {
-        place: p,
-        results,
-        exits,
-        end,
-    };
-    put_runs(s, numbers, slots, lists, values, i, at, out)
 }
