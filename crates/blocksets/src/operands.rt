@@ -58,7 +58,7 @@ fn operand_of(r: Record) -> Operand
 
 // What record i does with a value; only an edge argument is decoded. The kinds above 6 are set apart by their size, since the
 // machine code of tests for equality alone is again a table of jumps.
-pub fn operand_at(s: &[u8], i: usize) -> Operand
+fn operand_at(s: &[u8], i: usize) -> Operand
     requires { ⌜ (i < recordCount (now s)) × (ordered 0 (records (now s)) ≡ true) ⌝ }
     ensures { λ x. ⌜ x ≡ operandOf (recordAt (now (s .entry)) i) ⌝ }
 {
