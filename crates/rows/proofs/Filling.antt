@@ -1,21 +1,19 @@
 -- A row written word by word, and one word of it changed at a bit.
-use Prim.Native.Nat.{ℕ, _+_, _-_, _*_, _/_, _%_, _^_, _<_, _≤_}
+use Prim.Native.Nat.{ℕ, _+_, _*_, _/_, _%_, _<_, _≤_}
 use native.Mathlib.Omega.{arith}
 use mathlib.Core.Path.{_≡_, refl, sym, ap, _∙_}
 use mathlib.Core.Logic.{_≢_}
-use mathlib.Core.Bool.{Bool, true, false, not, _&&_, _||_}
+use mathlib.Core.Bool.{Bool, false}
 use mathlib.Core.List.{List}
 use lib.ListN.{length, getD, set, length-set}
 use lib.Seq.{getD-set-same, getD-set-other}
 use lib.Dec.{eqb, eqb→eq}
-use lib.Pow.{pow-lt}
-use lib.Bits.{bitAnd, bitOr}
 use borrow.Author.Count.{below-more}
 use borrow.Author.Tests.{ne-eqb}
 use Rattle.rules.specs.Limits.{rowWords}
 use Rattle.rules.specs.Lists.{update, NumberSet}
 use Rattle.lists.specs.Tests.{test-elim, T-ext, eq→eqb, neqb→ne}
-use Rattle.rows.specs.Bits.{bitAt, bit-or, bit-and, bit-not, bit-power}
+use Rattle.rows.specs.Bits.{bitAt}
 use Rattle.rows.specs.Rows.{rowValues, rows, HasRow, rows-bit, rows-far, rows-ext, rows-changed}
 
 -- THE LOOP over a row. Its first k words are those of the set; all other words are as they were.
@@ -102,33 +100,3 @@ module _ (change : Bool → Bool → Bool) (kept : (b : Bool) → change false b
       word k i l m =
           test-elim (eqb k (v / 64)) (λ h. let q : k ≡ v / 64 = eqb→eq k (v / 64) h in rw q (same i m))
           (λ h. other k i l m (neqb→ne k (v / 64) h))
-
--- the word that has only the bit of v puts that bit into a word, and its complement takes it out
-pub bit-inserted :
-    (v x only : ℕ) → only ≡ 2 ^ (v % 64) → (i : ℕ)
-    → bitAt (bitOr x only) i ≡ (eqb i (v % 64) || false) || bitAt x i
-bit-inserted v x only e i =
-    bit-or i x only
-    ∙ ap (λ b. bitAt x i || b) (ap (λ w. bitAt w i) e ∙ bit-power i (v % 64))
-    ∙ either (bitAt x i) (eqb i (v % 64))
-  where
-    either : (a b : Bool) → a || b ≡ (b || false) || a
-    either true true = refl
-    either true false = refl
-    either false true = refl
-    either false false = refl
-
-pub bit-removed :
-    (v x only : ℕ) → only ≡ 2 ^ (v % 64) → (i : ℕ) → i < 64
-    → bitAt (bitAnd x (2 ^ 64 - 1 - only)) i ≡ not (eqb i (v % 64) || false) && bitAt x i
-bit-removed v x only e i l =
-    let fits : only < 2 ^ 64 = rw e (pow-lt {i = v % 64} {j = 64} (omega arith)) in
-    bit-and i x (2 ^ 64 - 1 - only)
-    ∙ ap (λ b. bitAt x i && b) (bit-not 64 i only l fits ∙ ap (λ w. not (bitAt w i)) e ∙ ap not (bit-power i (v % 64)))
-    ∙ both (bitAt x i) (eqb i (v % 64))
-  where
-    both : (a b : Bool) → a && not b ≡ not (b || false) && a
-    both true true = refl
-    both true false = refl
-    both false true = refl
-    both false false = refl

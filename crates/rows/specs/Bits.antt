@@ -6,6 +6,7 @@ use mathlib.Core.Path.{_≡_, refl, sym, ap, _∙_}
 use mathlib.Core.Logic.{_≢_}
 use mathlib.Core.Bool.{Bool, true, false, not, _&&_, _||_, and-self, and-true}
 use lib.Bits.{bitAnd, bitOr, and-step, or-step, and-mask}
+use lib.Pow.{pow-lt}
 use lib.Count.{trailingZeros, under}
 use lib.Dec.{eqb, eqb·zero-suc, eqb·suc-zero, eqb·suc-suc}
 use borrow.Author.Tests.{eqb-true, eqb-false}
@@ -78,6 +79,36 @@ bit-power zero (suc k) =
 bit-power (suc i) (suc k) =
     let e : 2 ^ suc k / 2 ≡ 2 ^ k = omega (arith, pow-suc 2 k) in
     rw e (bit-power i k ∙ sym (eqb·suc-suc i k))
+
+-- ONE BIT. The word that has only the bit of v puts that bit into a word, and its complement takes it out.
+pub bit-inserted :
+    (v x only : ℕ) → only ≡ 2 ^ (v % 64) → (i : ℕ)
+    → bitAt (bitOr x only) i ≡ (eqb i (v % 64) || false) || bitAt x i
+bit-inserted v x only e i =
+    bit-or i x only
+    ∙ ap (λ b. bitAt x i || b) (ap (λ w. bitAt w i) e ∙ bit-power i (v % 64))
+    ∙ either (bitAt x i) (eqb i (v % 64))
+  where
+    either : (a b : Bool) → a || b ≡ (b || false) || a
+    either true true = refl
+    either true false = refl
+    either false true = refl
+    either false false = refl
+
+pub bit-removed :
+    (v x only : ℕ) → only ≡ 2 ^ (v % 64) → (i : ℕ) → i < 64
+    → bitAt (bitAnd x (2 ^ 64 - 1 - only)) i ≡ not (eqb i (v % 64) || false) && bitAt x i
+bit-removed v x only e i l =
+    let fits : only < 2 ^ 64 = rw e (pow-lt {i = v % 64} {j = 64} (omega arith)) in
+    bit-and i x (2 ^ 64 - 1 - only)
+    ∙ ap (λ b. bitAt x i && b) (bit-not 64 i only l fits ∙ ap (λ w. not (bitAt w i)) e ∙ ap not (bit-power i (v % 64)))
+    ∙ both (bitAt x i) (eqb i (v % 64))
+  where
+    both : (a b : Bool) → a && not b ≡ not (b || false) && a
+    both true true = refl
+    both true false = refl
+    both false true = refl
+    both false false = refl
 
 -- a bit is what a shift brings to the lowest place
 bit-shifted : (i x : ℕ) → bitAt x i ≡ eqb (x / 2 ^ i % 2) 1

@@ -25,7 +25,7 @@ pub fn contains(t: &[u64], row: usize, v: usize) -> bool
 }
 
 // The word in which only the bit of a value is set.
-fn bit_of(v: usize) -> u64
+pub fn bit_of(v: usize) -> u64
     ensures { λ r. ⌜ r ≡ 2 ^ (v % 64) ⌝ }
 {
     1u64 << (v % WORD_BITS)

@@ -8,19 +8,19 @@ use lib.Seq.{getD-take, drop-cons, drop-length, length-take-le}
 use Rattle.rules.specs.Limits.{largestBlocks}
 use Rattle.lists.specs.Members.{_∈_, here, there, getD-∈}
 use Rattle.fixpoint.specs.Removal.{moveToTop, remove-absent}
-use Rattle.worklist.specs.Entries.{entries, Stacked}
+use Rattle.worklist.specs.Entries.{entries, Stacked, Kept}
 use Rattle.solving.specs.declared.Progress.{Progress}
 use Rattle.solving.specs.Chains.{chain, Chain, chain-more, chain-behind}
 use Rattle.solving.specs.Progress.{pushAll, Pushable, Pushed}
 
 -- nothing is left to push
-pushed-none : (at : Progress) → Pushed [] at at
-pushed-none at = record { left = refl; visits = refl; pushes = omega arith }
+pushed-none : (at : Progress) → Kept (at .worklist) → Pushed [] at at
+pushed-none at k = record { left = refl; kept = k; visits = refl; pushes = omega arith }
 
 -- ONE PUSH: what is known of the progress behind it
 pub record One (p : ℕ) (at r : Progress) : Type 0 where
   pub left : entries (r .worklist) ≡ moveToTop p (entries (at .worklist))
-  pub stacked : Stacked (entries (r .worklist))
+  pub kept : Kept (r .worklist)
   pub visits : r .visits ≡ at .visits
   pub pushes : r .pushes ≡ at .pushes + 1
 
@@ -29,6 +29,7 @@ pushed-more : (p : ℕ) (ps : List ℕ) (at at′ r : Progress) → One p at at�
 pushed-more p ps at at′ r one h =
     record {
       left = h .left ∙ ap (pushAll ps) (one .left);
+      kept = h .kept;
       visits = h .visits ∙ one .visits;
       pushes = omega (arith, h .pushes, one .pushes);
     }
@@ -37,7 +38,7 @@ pushed-more p ps at at′ r one h =
 pushable-more : (p : ℕ) (ps : List ℕ) (at at′ : Progress) → One p at at′ → Pushable (p ∷ ps) at → Pushable ps at′
 pushable-more p ps at at′ one h =
     record {
-      stacked = one .stacked;
+      kept = one .kept;
       below = λ q m. h .below q (there m);
       counted = omega (arith, h .counted, one .pushes);
     }
@@ -55,15 +56,15 @@ pub pushing-start :
 pushing-start from next tag at falls h =
     record {
       entries-fall = falls;
-      pushable = record { stacked = h .stacked; below = h .below; counted = omega (arith, h .counted) };
-      rest = λ r pushed. record { left = pushed .left; visits = pushed .visits; pushes = omega (arith, pushed .pushes) };
+      pushable = record { kept = h .kept; below = h .below; counted = omega (arith, h .counted) };
+      rest = λ r pushed. record { left = pushed .left; kept = pushed .kept; visits = pushed .visits; pushes = omega (arith, pushed .pushes) };
     }
 
 module _ (from next all : List ℕ) (at : Progress) (tag : ℕ) (here′ : Progress) (h : Pushing from next all at tag here′) where
   -- none is left
   pub pushing-done : tag ≡ 0 → Pushed all at here′
   pushing-done none =
-      h .rest here′ (subst (λ (t : ℕ). Pushed (chain from next t) here′ here′) (sym none) (pushed-none here′))
+      h .rest here′ (subst (λ (t : ℕ). Pushed (chain from next t) here′ here′) (sym none) (pushed-none here′ (h .pushable .kept)))
 
   module _ (opened : 0 < tag) where
     -- the entry
@@ -85,8 +86,8 @@ module _ (from next all : List ℕ) (at : Progress) (tag : ℕ) (here′ : Progr
     pushable = subst (λ (ps : List ℕ). Pushable ps here′) list (h .pushable)
 
     -- so it can
-    pub pushing-block : Stacked (entries (here′ .worklist)) × (getD from e 0 < largestBlocks)
-    pushing-block = (pushable .stacked, pushable .below (getD from e 0) (here refl))
+    pub pushing-block : Kept (here′ .worklist) × (getD from e 0 < largestBlocks)
+    pushing-block = (pushable .kept, pushable .below (getD from e 0) (here refl))
 
     -- the entry stands in both tables
     pub pushing-entry : (e < length from) × (e < length next)

@@ -4,7 +4,7 @@ use Prim.Native.Nat.{ℕ, suc, _+_, _-_, _*_, _<_, _≤_, _^_}
 use native.Mathlib.Omega.{arith}
 use mathlib.Core.Path.{_≡_, refl, sym, ap, subst, _∙_}
 use mathlib.Core.Bool.{Bool, true, false, true≢false}
-use mathlib.Core.List.{List, [], _∷_, List·Nodup}
+use mathlib.Core.List.{List, [], _∷_}
 use lib.ListN.{length, take}
 use lib.Seq.{take-append-seam}
 use Rattle.rules.specs.Limits.{largestValues, largestBlocks, largestEdges}
@@ -19,11 +19,11 @@ use Rattle.walks.specs.InFile.{reachable-in-file, length-reachable-le}
 use Rattle.walks.specs.Reachable.{reachable-nodup}
 use Rattle.fixpoint.specs.Resumable.{start-resumable, after-resumable}
 use Rattle.fixpoint.specs.MoveToTop.{Compact, compact, pushTop, startTop, visitOf, visitEntry, stepTop, afterTop, compact-after, compact-start}
-use Rattle.fixpoint.specs.TopAnswer.{top-visits-le, top-visits-lt, top-pushes-le, top-nodup, top-reachable, top-final}
+use Rattle.fixpoint.specs.TopAnswer.{top-visits-le, top-visits-lt, top-pushes-le, top-reachable, top-final}
 use Rattle.graph.specs.Zeros.{Zeros, length-padded-le}
 use Rattle.graph.specs.ByTable.{some}
 use Rattle.rows.specs.Rows.{rows, rows-zeros}
-use Rattle.worklist.specs.Entries.{entries, Stacked, empty-none}
+use Rattle.worklist.specs.Entries.{entries, Stacked, Kept, empty-none}
 use Rattle.worklist.specs.declared.Worklist.{Worklist}
 use Rattle.solving.specs.declared.Progress.{Progress}
 use Rattle.solving.specs.Progress.{Stands}
@@ -105,13 +105,14 @@ module _ {s places order : List ℕ} {count : ℕ} {first from next uses kills i
 
   -- so at first they and the tables of zeros stand for the start of the process.
   pub start-stands :
-      (w : Worklist) → entries w ≡ take count order
+      (w : Worklist) → entries w ≡ take count order → Kept w
       → Stands ins₀ outs₀ (record { worklist = w; visits = 0; pushes = count }) (startTop f)
-  start-stands w e =
+  start-stands w e kept =
       record {
         live-in = zero-rows (h .ins-zero);
         live-out = zero-rows (h .outs-zero);
         left = e ∙ blocks-listed;
+        kept = kept;
         visits = refl;
         pushes = h .walked .counted;
       }
@@ -170,11 +171,7 @@ module _ {s places order : List ℕ} {count : ℕ} {first from next uses kills i
       ready =
           record {
             some = more;
-            stacked =
-                record {
-                  once = subst (λ (l : List ℕ). List·Nodup l) (sym (stands .left)) (top-nodup f k);
-                  below = λ b m. in-worklist (reached m);
-                };
+            kept = stands .kept;
             in-file = λ b m. in-file (reached m);
             visits = omega (arith, stands .visits, top-visits-le f k, bound-fits);
             pushes =

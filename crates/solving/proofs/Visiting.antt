@@ -15,7 +15,7 @@ use Rattle.walks.specs.InFile.{reachable-in-file}
 use Rattle.fixpoint.specs.Edges.{predecessor-reachable}
 use Rattle.fixpoint.specs.MoveToTop.{Compact, pushTop, visitEntry, stepTop}
 use Rattle.rows.specs.Rows.{rows}
-use Rattle.worklist.specs.Entries.{entries, Stacked}
+use Rattle.worklist.specs.Entries.{entries, Kept}
 use Rattle.worklist.specs.declared.Worklist.{Worklist}
 use Rattle.solving.specs.declared.Progress.{Progress}
 use Rattle.solving.specs.Chains.{chain, Chain}
@@ -55,15 +55,15 @@ module _ (f : Function) (at : Progress) (ready : Ready f at) (b : ℕ) (rest : W
 
   -- Its predecessors can be pushed, whatever the visits are.
   pub predecessors-pushable :
-      (visits : ℕ) → T (numbersInFile f) → Few f → (first from next : List ℕ) → Listed f first from next → Stacked (entries rest)
+      (visits : ℕ) → T (numbersInFile f) → Few f → (first from next : List ℕ) → Listed f first from next → Kept rest
       → (b < length first) × Chain from next (getD first b 0) × Pushable (chain from next (getD first b 0)) (popped-off visits)
-  predecessors-pushable visits inFile few first from next h stacked =
+  predecessors-pushable visits inFile few first from next h kept =
       let l = top-in-file in (
         omega (arith, h .blocks),
         h .chains b l,
         subst (λ (ps : List ℕ). Pushable ps (popped-off visits)) (sym (h .lists b l))
             (record {
-              stacked = stacked;
+              kept = kept;
               below =
                   λ p m.
                   let k = reachable-in-file f inFile (omega arith) (predecessor-reachable f b m) in
@@ -118,14 +118,14 @@ module _ (f : Function) (at : Progress) (ready : Ready f at) (b : ℕ) (rest : W
     visits = omega (arith, stands .visits)
 
     -- Where it did not grow, this is all;
-    pub stands-idle : told ≡ false → Stands ins′ outs′ left (stepTop f c)
-    stands-idle same =
+    pub stands-idle : told ≡ false → Kept rest → Stands ins′ outs′ left (stepTop f c)
+    stands-idle same kept =
         subst (Stands ins′ outs′ left) (sym (stepped ∙ ap next same))
-        (record { live-in = added .live-in; live-out = added .live-out; left = refl; visits = visits; pushes = refl })
+        (record { live-in = added .live-in; live-out = added .live-out; left = refl; kept = kept; visits = visits; pushes = refl })
 
     -- where it did, each predecessor is pushed.
     pub stands-grown :
         told ≡ true → (ps : List ℕ) → ps ≡ predecessors f b → (r : Progress) → Pushed ps left r → Stands ins′ outs′ r (stepTop f c)
     stands-grown more ps list r pushed =
         subst (Stands ins′ outs′ r) (sym (stepped ∙ ap next more ∙ ap (foldl pushTop visited) (sym list) ∙ pushes-all ps visited))
-        (record { live-in = added .live-in; live-out = added .live-out; left = pushed .left; visits = pushed .visits ∙ visits; pushes = pushed .pushes })
+        (record { live-in = added .live-in; live-out = added .live-out; left = pushed .left; kept = pushed .kept; visits = pushed .visits ∙ visits; pushes = pushed .pushes })

@@ -12,7 +12,7 @@ use Rattle.lists.specs.Members.{_∈_}
 use Rattle.fixpoint.specs.Removal.{moveToTop}
 use Rattle.fixpoint.specs.MoveToTop.{Compact}
 use Rattle.rows.specs.Rows.{rows}
-use Rattle.worklist.specs.Entries.{entries, Stacked}
+use Rattle.worklist.specs.Entries.{entries, Kept}
 use Rattle.solving.specs.declared.Progress.{Progress}
 
 -- THE SETS. Live-out of block b gets the live-in of each of these blocks.
@@ -37,13 +37,14 @@ pushAll ps l = foldl (λ (r : List ℕ) (p : ℕ). moveToTop p r) l ps
 
 -- These blocks can be pushed: the worklist has room for them, and so has the count.
 pub record Pushable (ps : List ℕ) (at : Progress) : Type 0 where
-  pub stacked : Stacked (entries (at .worklist))
+  pub kept : Kept (at .worklist)
   pub below : (p : ℕ) → p ∈ ps → p < largestBlocks
   pub counted : at .pushes + length ps < 2 ^ 31
 
 -- They were pushed, and nothing else was done.
 pub record Pushed (ps : List ℕ) (at r : Progress) : Type 0 where
   pub left : entries (r .worklist) ≡ pushAll ps (entries (at .worklist))
+  pub kept : Kept (r .worklist)
   pub visits : r .visits ≡ at .visits
   pub pushes : r .pushes ≡ at .pushes + length ps
 
@@ -52,5 +53,6 @@ pub record Stands (ins outs : List ℕ) (at : Progress) (c : Compact) : Type 0 w
   pub live-in : rows ins ≡ c .ins
   pub live-out : rows outs ≡ c .outs
   pub left : entries (at .worklist) ≡ c .entries  -- the blocks still to visit, top first
+  pub kept : Kept (at .worklist)
   pub visits : at .visits ≡ length (c .visited)  -- the code counts what the definition lists
   pub pushes : at .pushes ≡ c .pushes

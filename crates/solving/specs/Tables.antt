@@ -23,7 +23,7 @@ use Rattle.graph.specs.LinkLaws.{edges-first, linked-chained, predecessors-link
 use Rattle.graph.specs.LinkLaws as laws
 use Rattle.graph.specs.Few.{values-few, blocks-few, edges-few}
 use Rattle.rows.specs.Rows.{rows}
-use Rattle.worklist.specs.Entries.{entries, Stacked}
+use Rattle.worklist.specs.Entries.{entries, Kept}
 use Rattle.solving.specs.declared.Progress.{Progress}
 use Rattle.solving.specs.Chains.{chain, Chain, linked-chain, chain-linked}
 
@@ -65,7 +65,7 @@ pub record LiveTables (f : Function) (ins outs : List ℕ) : Type 0 where
 -- of what 32 bits hold, so that no sum overflows.
 pub record Ready (f : Function) (at : Progress) : Type 0 where
   pub some : empty (entries (at .worklist)) ≡ false  -- there is a block on top
-  pub stacked : Stacked (entries (at .worklist))  -- none stands there twice
+  pub kept : Kept (at .worklist)  -- none stands there twice, and each has its mark
   pub in-file : (b : ℕ) → b ∈ entries (at .worklist) → b < length (f .blocks)
   pub visits : at .visits < 2 ^ 31
   pub pushes : (b : ℕ) → b ∈ entries (at .worklist) → at .pushes + length (predecessors f b) < 2 ^ 31

@@ -14,7 +14,7 @@ ghost use Rattle.graph.specs.Between.{between};
 ghost use Rattle.graph.specs.Tails.{TailsLast, TailLast};
 ghost use Rattle.graph.specs.Tables.{Given};
 ghost use Rattle.rows.specs.Rows.{rows, HasRow};
-ghost use Rattle.worklist.specs.Entries.{entries, Stacked};
+ghost use Rattle.worklist.specs.Entries.{entries, Stacked, Kept};
 ghost use Rattle.solving.specs.Chains.{chain, Chain};
 ghost use Rattle.solving.specs.Progress.{joinedInto, Added, Pushable, Pushed, Stands};
 ghost use Rattle.solving.specs.Tables.{Ruled, LiveTables, Listed, Ready, Solvable};
@@ -139,7 +139,7 @@ fn is_done(at: Progress) -> bool
 // All indices are pushed, highest first, so that index 0 is on top.
 fn start_worklist(order: &[usize], count: usize) -> Worklist
     requires { ⌜ (count ≤ length (now order)) × Stacked (take count (now order)) ⌝ }
-    ensures { λ r. ⌜ entries r ≡ take count (now (order .entry)) ⌝ }
+    ensures { λ r. ⌜ (entries r ≡ take count (now (order .entry))) × Kept r ⌝ }
 {
     let mut worklist = Worklist::new();
     let mut i = count;

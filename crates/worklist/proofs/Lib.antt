@@ -1,3 +1,5 @@
-pub mod Keeping
+pub mod Marks
+pub mod Moving
 pub mod Places
+pub mod Raising
 pub mod Walks

@@ -32,11 +32,11 @@ some-entries w h =
     let n : w .count ≢ 0 = eqb-false (w .count) 0 (sym (empty-entries w) ∙ h) in
     omega arith
 
--- and the last that is counted is on top
+-- and the last that is counted is on top, whatever is marked
 pub entries-top :
-    (w : Worklist) → 0 < w .count
-    → entries w ≡ getD (w .blocks) (w .count - 1) 0 ∷ entries (record { blocks = w .blocks; count = w .count - 1 })
+    (w : Worklist) (m : ℕ) → 0 < w .count
+    → entries w ≡ getD (w .blocks) (w .count - 1) 0 ∷ entries (record { blocks = w .blocks; count = w .count - 1; pending = m })
 unfolding entries
-entries-top w l =
+entries-top w m l =
     let last : w .count ≡ suc (w .count - 1) = omega arith in
     ap (down (λ j. getD (w .blocks) j 0)) last

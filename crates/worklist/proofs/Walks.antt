@@ -12,7 +12,7 @@ use Rattle.rules.specs.Limits.{largestBlocks}
 use Rattle.rules.specs.Lists.{empty}
 use Rattle.fixpoint.specs.Removal.{moveToTop}
 use Rattle.lending.specs.Lent.{Plain, Valued}
-use Rattle.worklist.specs.Entries.{entries, Stacked}
+use Rattle.worklist.specs.Entries.{entries, Kept}
 use Rattle.worklist.specs.declared.Worklist.{Worklist}
 use Rattle.worklist.specs.declared.Popped.{Popped}
 use Rattle.worklist.proofs.Worklist as W
@@ -28,17 +28,17 @@ popped = record { type = P.the-type; laws = P′.the-laws; plain = P′.the-plai
 
 -- A PUSH
 abbrev pub Pushable : Worklist → ℕ → Type 0
-Pushable w block = Stacked (entries w) × (block < largestBlocks)
+Pushable w block = Kept w × (block < largestBlocks)
 
 abbrev pub Pushed : Worklist → ℕ → Worklist → Type 0
-Pushed w block r = (entries r ≡ moveToTop block (entries w)) × Stacked (entries r)
+Pushed w block r = (entries r ≡ moveToTop block (entries w)) × Kept r
 
 -- A POP
 abbrev pub Poppable : Worklist → Type 0
-Poppable w = Stacked (entries w) × (empty (entries w) ≡ false)
+Poppable w = Kept w × (empty (entries w) ≡ false)
 
 abbrev pub Taken : Worklist → ℕ → Worklist → Type 0
-Taken w block r = (entries w ≡ block ∷ entries r) × Stacked (entries r)
+Taken w block r = (entries w ≡ block ∷ entries r) × Kept r
 
 -- the block and the rest, as one answer, each at its machine value
 abbrev pub answer : ℕ → Worklist → Popped

@@ -1,4 +1,4 @@
--- What a worklist holds: the blocks still to visit, top first, no block twice.
+-- What a worklist holds: the blocks still to visit, top first, no block twice, each with its mark.
 use Prim.Native.Nat.{ℕ, _<_, _≤_}
 use native.Mathlib.Omega.{arith}
 use mathlib.Core.Path.{_≡_, refl}
@@ -7,12 +7,13 @@ use mathlib.Core.List.{List, [], _∷_, List·Nodup, nodup-nil, nodup-cons}
 use lib.ListN.{length, getD}
 use lib.Dec.{eqb}
 use Rattle.rules.specs.Limits.{largestBlocks}
-use Rattle.rules.specs.Lists.{empty}
+use Rattle.rules.specs.Lists.{empty, has}
 use Rattle.lists.specs.Members.{_∈_, there, not-∈-nil, ∈-elim}
 use Rattle.lists.specs.Lack.{nodup-length-le}
 use Rattle.lists.specs.Down.{down}
 use Rattle.fixpoint.specs.Finding.{keep-∈}
 use Rattle.fixpoint.specs.Removal.{moveToTop, nodup-moveToTop}
+use Rattle.rows.specs.Bits.{bitAt}
 use Rattle.worklist.specs.declared.Worklist.{Worklist}
 
 -- the entries, top first; what stands at count and above is no entry
@@ -43,6 +44,15 @@ stacked-push b l k h =
 -- and so does a pop.
 pub stacked-pop : (b : ℕ) (l : List ℕ) → Stacked (b ∷ l) → Stacked l
 stacked-pop b l h = record { once = nodup-cons .0 (h .once) .1; below = λ x m. h .below x (there m) }
+
+-- The marks of entries: of a file's blocks, exactly these have theirs set.
+abbrev pub Marked : ℕ → List ℕ → Type 0
+Marked marks l = (b : ℕ) → b < largestBlocks → bitAt marks b ≡ has b l
+
+-- WHAT EVERY CALL KEEPS of a worklist.
+pub record Kept (w : Worklist) : Type 0 where
+  pub stacked : Stacked (entries w)
+  pub marked : Marked (w .pending) (entries w)
 
 -- what the test for an empty worklist says when it passes
 pub empty-none : (l : List ℕ) → empty l ≡ true → l ≡ []

@@ -2,7 +2,8 @@
 use mathlib.Core.Bool.{false, _||_}
 use mathlib.Core.Path.{refl}
 use borrow.Author.Needs.{needs}
-use Rattle.rows.proofs.Filling.{rows-set, bit-inserted}
+use Rattle.rows.specs.Bits.{bit-inserted}
+use Rattle.rows.proofs.Filling.{rows-set}
 use Rattle.rows.proofs.insert.Statement.{statement}
 use Rattle.rows.proofs.insert.Tie as tie
 

@@ -2,7 +2,8 @@
 use mathlib.Core.Bool.{false, not, _||_, _&&_}
 use mathlib.Core.Path.{refl}
 use borrow.Author.Needs.{needs}
-use Rattle.rows.proofs.Filling.{rows-set, bit-removed}
+use Rattle.rows.specs.Bits.{bit-removed}
+use Rattle.rows.proofs.Filling.{rows-set}
 use Rattle.rows.proofs.remove.Statement.{statement}
 use Rattle.rows.proofs.remove.Tie as tie
 

@@ -53,7 +53,7 @@ loop-again : tie.Need-loop-again Inv-loop μ-loop
 loop-again c =
     let push = c .before .pushing in
     pushing-more _ _ _ _ _ _ (c .before .before .before .before .loop .inv) (c .before .before .before .loop-test .taken) _
-    (record { left = push .ensures .0; stacked = push .ensures .1; visits = refl; pushes = omega arith })
+    (record { left = push .ensures .0; kept = push .ensures .1; visits = refl; pushes = omega arith })
 
 add-t18 : tie.Need-add-t18 Inv-loop μ-loop
 add-t18 c = search needs

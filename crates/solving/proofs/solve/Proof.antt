@@ -30,7 +30,7 @@ cast-t14 c = omega (arith, count-fits (c .before .before .before .before .before
 loop-holds : tie.Need-loop-holds Inv-loop μ-loop
 loop-holds c =
     let first = c .start-worklist in
-    (refl, refl, start-stands (c .before .before .before .before .before .before .before .before .before .before .before .pre) (first .result) (first .ensures))
+    (refl, refl, start-stands (c .before .before .before .before .before .before .before .before .before .before .before .pre) (first .result) (first .ensures .0) (first .ensures .1))
 
 is-done-requires : tie.Need-is-done-requires Inv-loop μ-loop
 is-done-requires c κs = search needs

@@ -5,13 +5,13 @@ use mathlib.Core.Path.{_≡_, sym, ap, _∙_}
 use lib.ListN.{take, drop}
 use Prim.Native.Nat.{_≤_}
 use Rattle.fixpoint.specs.Removal.{moveToTop}
-use Rattle.worklist.specs.Entries.{entries, Stacked}
+use Rattle.worklist.specs.Entries.{entries, Kept}
 use Rattle.solving.proofs.Pushing.{starting-none, starting-below, starting-more}
 use Rattle.solving.proofs.start_worklist.Statement.{statement}
 use Rattle.solving.proofs.start_worklist.Tie as tie
 
 abbrev Inv-loop : tie.InvT-loop
-Inv-loop order count worklist₀ i₀ worklist i = (i ≤ count) × (entries worklist ≡ drop i (take count order)) × Stacked (entries worklist)
+Inv-loop order count worklist₀ i₀ worklist i = (i ≤ count) × (entries worklist ≡ drop i (take count order)) × Kept worklist
 
 abbrev μ-loop : tie.MeasureT-loop
 μ-loop order count worklist₀ i₀ worklist i = i
@@ -61,7 +61,7 @@ returns c =
     let start = c .before .before .before .before in
     let loop = c .before .loop in
     let none : loop .i ≡ 0 = omega arith in
-    loop .inv .1 ∙ ap (λ n. drop n (take (start .args .count) (start .args .order .now))) none
+    (loop .inv .1 ∙ ap (λ n. drop n (take (start .args .count) (start .args .order .now))) none, loop .inv .2)
 
 pub start-worklist-spec : {M : Type 1} → statement M
 start-worklist-spec =

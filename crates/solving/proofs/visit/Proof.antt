@@ -50,8 +50,9 @@ returns-2 : tie.Need-returns-2
 returns-2 c =
     λ state stands.
     let start = c .before .before .before .before .before .before .before .before .before .before .before .before .before .before .before .before .before .before .before .before .before in
-    stands-idle (functionIn (start .args .s .now)) (start .args .at) (start .pre .4) _ _ (c .before .before .before .before .before .before .before .before .before .before .popping .ensures .0) _ _ _ _ _ (c .before .before .before .before .before .add-live .ensures)
-    state stands (c .if1 .left)
+    let pop = c .before .before .before .before .before .before .before .before .before .before .popping in
+    stands-idle (functionIn (start .args .s .now)) (start .args .at) (start .pre .4) _ _ (pop .ensures .0) _ _ _ _ _ (c .before .before .before .before .before .add-live .ensures)
+    state stands (c .if1 .left) (pop .ensures .1)
 
 pub visit-spec : {M : Type 1} → statement M
 visit-spec =
