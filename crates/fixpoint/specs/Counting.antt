@@ -2,7 +2,7 @@
 use Prim.Native.Nat.{ℕ}
 use mathlib.Core.Path.{_≡_, refl, sym, ap, subst, _∙_}
 use mathlib.Core.Bool.{Bool, true, false, not, cond}
-use mathlib.Core.List.{List, [], _∷_, List·Nodup, nodup-nil, nodup-cons}
+use mathlib.Core.List.{List, [], _∷_, List·Nodup, nodup-cons}
 use lib.Dec.{T, T-not, eqb, eqb→eq}
 use Rattle.rules.specs.Lists.{has, update, NumberSet}
 use Rattle.rules.specs.Liveness.{popped}
@@ -10,7 +10,7 @@ use Rattle.lists.specs.Tests.{test-elim, if-elim, chosen}
 use Rattle.lists.specs.Members.{_∈_, here, there, not-∈-nil, ∈-elim, ∈→has}
 use Rattle.fixpoint.specs.Finding.{update-here, ∈-keep, keep-∈}
 use Rattle.fixpoint.specs.Removal.{remove, moveToTop, remove-head, remove-other, remove-comm, remove-idem}
-use Rattle.fixpoint.specs.Removal.{remove-absent, nodup-moveToTop}
+use Rattle.fixpoint.specs.Removal.{remove-absent}
 use Rattle.fixpoint.specs.Steps.{popped-counts}
 
 -- the entries that count, each where it stands first
@@ -18,16 +18,6 @@ pub counting : NumberSet → List ℕ → List ℕ
 counting pending [] = []
 counting pending (b ∷ stack) =
     elim (pending b) [ true ↦ moveToTop b (counting pending stack) | false ↦ counting pending stack ]
-
--- no block is there twice
-pub counting-nodup : (pending : NumberSet) (stack : List ℕ) → List·Nodup (counting pending stack)
-unfolding counting
-counting-nodup pending [] = nodup-nil
-counting-nodup pending (b ∷ stack) =
-    let rest = counting-nodup pending stack in
-    if-elim (λ (r : List ℕ). List·Nodup r) (pending b) (moveToTop b (counting pending stack)) (counting pending stack)
-    (λ _. nodup-moveToTop b (counting pending stack) rest)
-    (λ _. rest)
 
 -- every entry counts
 pub counting-pending : (pending : NumberSet) {x : ℕ} (stack : List ℕ) → x ∈ counting pending stack → T (pending x)

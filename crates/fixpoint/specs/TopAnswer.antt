@@ -1,15 +1,15 @@
 -- What a loop over the move-to-top stack needs to know, from the start and after any number of turns: how many visits
--- and pushes there were at most, that the stack has room, and that the answer is there when the stack is empty.
+-- and pushes there were at most, what blocks stand on the stack, and that the answer is there when the stack is empty.
 use Prim.Native.Nat.{ℕ, _+_, _≤_, _<_}
 use native.Mathlib.Omega.{arith}
 use mathlib.Core.Path.{_≡_, refl, sym, ap, subst, _∙_}
-use mathlib.Core.List.{List, [], _∷_, List·Nodup, nil≢cons}
+use mathlib.Core.List.{List, [], _∷_, nil≢cons}
 use lib.ListN.{length}
 use Rattle.rules.specs.Tree.{Function}
 use Rattle.rules.specs.Graph.{reachable}
 use Rattle.rules.specs.Liveness.{State, start, after, popped, bound, process}
 use Rattle.lists.specs.Members.{_∈_}
-use Rattle.fixpoint.specs.Counting.{counting-nodup, counting-pending, counting-none}
+use Rattle.fixpoint.specs.Counting.{counting-pending, counting-none}
 use Rattle.fixpoint.specs.Resumable.{start-resumable, after-resumable}
 use Rattle.fixpoint.specs.Ends.{busy-work}
 use Rattle.fixpoint.specs.Answer.{process-ended, visits-work-le, pushes-potential-le}
@@ -57,13 +57,7 @@ module _ (f : Function) where
             busy-work f s (after-resumable f k (start f) (start-resumable f)) x below top,
           )
 
-  -- No block stands on the stack twice,
-  pub top-nodup : (k : ℕ) → List·Nodup (turns k .entries)
-  top-nodup k =
-      let s = after f k (start f) in
-      subst (λ (c : Compact). List·Nodup (c .entries)) (turns-after k) (counting-nodup (s .pending) (s .stack))
-
-  -- all that stand there are reachable,
+  -- All that stand on the stack are reachable.
   pub top-reachable : (k : ℕ) {b : ℕ} → b ∈ turns k .entries → b ∈ reachable f
   top-reachable k {b} m =
       let s = after f k (start f) in
