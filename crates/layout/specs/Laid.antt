@@ -7,7 +7,7 @@ use native.Mathlib.Omega.{arith}
 use native.Mathlib.Numerals.{add-one}
 use lib.ListN.{length, getD}
 use Rattle.rules.specs.Limits.{rowWords}
-use Rattle.rules.specs.Lists.{has, NumberSet}
+use Rattle.rules.specs.Lists.{has, upFrom, NumberSet}
 use Rattle.rules.specs.Records.{recordCount, records}
 use Rattle.rules.specs.File.{ordered, functionIn}
 use Rattle.rules.specs.Graph.{reachable}
@@ -17,14 +17,15 @@ use Rattle.lists.specs.Tests.{is-true}
 use Rattle.graph.specs.Tables.{Given}
 use Rattle.graph.specs.Tails.{TailsLast}
 use Rattle.graph.specs.Blocks.{placeOf, block-head}
-use Rattle.graph.specs.ByTable.{place-at, end-le, start-less}
+use Rattle.graph.specs.ByTable.{place-at}
 use Rattle.rows.specs.Rows.{rowValues}
-use Rattle.listing.specs.Stepping.{headsFrom}
+use Rattle.listing.specs.Firsts.{Firsts}
+use Rattle.listing.specs.Listed.{length-of-blocks}
 use Rattle.listing.specs.Tables.{IndexTables, tag-reachable, tag-unreachable}
 use Rattle.writing.specs.Parts.{Readable}
 use Rattle.writing.specs.Places.{fromTo}
 use Rattle.layout.specs.BlockRuns.{numberAt, number-same, copyAt, blockRun}
-use Rattle.layout.specs.Numbered.{number-behind-run, number-place, number-fits}
+use Rattle.layout.specs.Numbered.{number-place, number-fits}
 
 -- what the writer of blocks reads: a file whose blocks' tails stand last, by its tables, a tag beside each record, and a row for
 -- each instruction
@@ -44,19 +45,13 @@ blockPartAt s places numbers slots values sets b =
 
 -- BY THE BLOCK TABLE
 module _ {s places : List ℕ} (g : Given s places) where
-  -- the first instruction of the file has number 0
-  pub number-none : 0 ≡ numberAt s (getD places 0 0)
-  number-none = sym (ap (numberAt s) (place-at s places g 0) ∙ number-place s (g .inOrder) 0 (omega arith))
-
   module _ (b : ℕ) (l : b < length (functionIn s .blocks)) where
-    -- a block's record has the number of its first instruction,
-    pub number-first : numberAt s (getD places b 0 + 1) ≡ numberAt s (getD places b 0)
-    number-first = rw (place-at s places g b) (number-same s (placeOf s b) (λ e. let two = block-head s b l in absurd (omega (arith, e, two))))
-
-    -- and the next one's follows
-    pub number-next : numberAt s (getD places (b + 1) 0) ≡ numberAt s (getD places b 0) + length (headsFrom s (getD places b 0 + 1) (getD places (b + 1) 0))
-    number-next =
-        omega (arith, number-behind-run s (getD places (b + 1) 0) (end-le s places g b l) (getD places b 0 + 1) (start-less s places g b l), number-first)
+    -- a block's record has the number of its first instruction, which is in the table
+    pub number-first : {firsts : List ℕ} → Firsts s firsts → getD firsts b 0 ≡ numberAt s (getD places b 0 + 1)
+    number-first h =
+        h .number b (omega arith)
+        ∙ sym (rw (place-at s places g b) (number-same s (placeOf s b) (λ e. let two = block-head s b l in absurd (omega (arith, e, two))))
+        ∙ ap (numberAt s) (place-at s places g b) ∙ number-place s (g .inOrder) b (omega arith) ∙ length-of-blocks (functionIn s) (upFrom 0 b))
 
 module _ {s places index numbers listRows : List ℕ} {values : ℕ} (t : BlockTables s places index numbers listRows values) where
   pub tables-readable : Readable s numbers

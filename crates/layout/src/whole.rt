@@ -4,6 +4,7 @@ ghost use lib.ListN.{length};
 ghost use Rattle.rules.specs.File.{functionRecords, functionIn};
 ghost use Rattle.rules.specs.Rewriting.{rewritten};
 ghost use Rattle.rows.specs.Rows.{rows};
+ghost use Rattle.listing.specs.Firsts.{Firsts};
 ghost use Rattle.writing.specs.Wrote.{room, Wrote};
 ghost use Rattle.layout.specs.Whole.{FunctionTables, functionRun, PlanTables};
 use crate::blocks::copy_records;
@@ -25,6 +26,7 @@ pub fn write_function(
     s: &[u8],
     places: &[usize],
     index: &[usize],
+    firsts: &[usize],
     numbers: &[u32],
     slots: &[u32],
     lists: &[u64],
@@ -33,7 +35,7 @@ pub fn write_function(
     counts: Counts,
     out: &mut [u8],
 ) -> usize
-    requires { ⌜ FunctionTables (now s) (now places) (now index) (now numbers) (now lists) (now «new_sizes») (now «slot_sizes») counts × (room (functionRun (now s) (now places) (now numbers) (now slots) (rows (now lists)) (now «new_sizes») (now «slot_sizes») counts) ≤ length (now out)) ⌝ }
+    requires { ⌜ FunctionTables (now s) (now places) (now index) (now numbers) (now lists) (now «new_sizes») (now «slot_sizes») counts × Firsts (now s) (now firsts) × (room (functionRun (now s) (now places) (now numbers) (now slots) (rows (now lists)) (now «new_sizes») (now «slot_sizes») counts) ≤ length (now out)) ⌝ }
     ensures { λ r. ⌜ Wrote (now (out .entry)) (functionRun (now (s .entry)) (now (places .entry)) (now (numbers .entry)) (now (slots .entry)) (rows (now (lists .entry))) (now («new_sizes» .entry)) (now («slot_sizes» .entry)) counts) r (now (out .exit)) ⌝ }
     ensures { λ r. ⌜ ((pointer : ℕ) → PlanTables (now (s .entry)) (now (numbers .entry)) (now (slots .entry)) (now (lists .entry)) (now («new_sizes» .entry)) (now («slot_sizes» .entry)) counts pointer → Wrote (now (out .entry)) (functionRecords (rewritten (functionIn (now (s .entry))) pointer)) r (now (out .exit))) ⌝ }
 {
@@ -49,6 +51,7 @@ pub fn write_function(
         places,
         blocks,
         index,
+        firsts,
         numbers,
         slots,
         lists,

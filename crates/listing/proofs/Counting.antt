@@ -1,14 +1,17 @@
--- The loop that counts a block's instructions.
+-- The loop that counts a block's instructions, and the one that numbers them block by block.
 use Prim.Native.Nat.{ℕ, zero, suc, _+_, _-_, _<_, _≤_}
 use mathlib.Core.Path.{_≡_, ap, _∙_}
 use mathlib.Core.Bool.{Bool, true, false}
 use mathlib.Core.List.{List}
 use native.Mathlib.Omega.{arith}
-use lib.ListN.{length}
+use lib.ListN.{length, getD}
 use lib.Dec.{eqb}
 use Rattle.rules.specs.Records.{kind, recordAt, recordCount}
+use Rattle.rules.specs.File.{functionIn}
 use Rattle.graph.specs.Between.{between-none}
+use Rattle.graph.specs.ByTable.{end-le, start-less}
 use Rattle.graph.specs.Sections.{placeIf, places}
+use Rattle.graph.specs.Tables.{Given}
 use Rattle.listing.specs.Stepping.{headsFrom, heads-more}
 
 pub heads-none : (s : List ℕ) (end : ℕ) → length (headsFrom s end end) ≡ 0
@@ -47,3 +50,15 @@ module _ (s : List ℕ) (end : ℕ) (k : end ≤ recordCount s) where
   -- there are no more than records
   pub heads-few : (p : ℕ) → p ≤ end → length (headsFrom s p end) ≤ end - p
   heads-few p l = few-from (end - p) p (omega arith)
+
+-- so the next block's first instruction has a number no higher than its place
+pub next-low :
+    (s places′ : List ℕ) → Given s places′ → (b : ℕ) → b < length (functionIn s .blocks) → (first count : ℕ)
+    → count ≡ length (headsFrom s (getD places′ b 0 + 1) (getD places′ (b + 1) 0)) → first ≤ getD places′ b 0 → first + count ≤ getD places′ (b + 1) 0
+next-low s places′ given b l first count counted low =
+    omega (
+      arith,
+      counted,
+      heads-few s (getD places′ (b + 1) 0) (end-le s places′ given b l) (getD places′ b 0 + 1) (start-less s places′ given b l),
+      start-less s places′ given b l,
+    )

@@ -4,5 +4,6 @@ pub mod Parted
 pub mod Stepping
 pub mod Listed
 pub mod Tables
+pub mod Firsts
 pub mod Ascending
 pub mod HasList

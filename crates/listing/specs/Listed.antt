@@ -54,14 +54,20 @@ module _ (f : Function) where
       go true = among-in-order is (process f .outs b)
       go false = sym (map-map inOrder (λ _. none) is)
 
-  -- THE LISTS are the sets in order.
+  below-in-order : (bs : List ℕ) → concatMap (listsOf f) bs ≡ map inOrder (concatMap (crossings f) bs)
+  below-in-order bs =
+      concatMap-same (listsOf f) (λ b. map inOrder (crossings f b)) block-in-order bs ∙ sym (map-concatMap inOrder (crossings f) bs)
+
+  -- THE LISTS are the sets in order,
   pub lists-in-order : lists f ≡ map inOrder (allCrossings f)
-  lists-in-order =
-      concatMap-same (listsOf f) (λ b. map inOrder (crossings f b)) block-in-order (upFrom 0 (length (f .blocks)))
-      ∙ sym (map-concatMap inOrder (crossings f) (upFrom 0 (length (f .blocks))))
+  lists-in-order = below-in-order (upFrom 0 (length (f .blocks)))
+
+  -- and as many, of all blocks and of some
+  pub length-of-blocks : (bs : List ℕ) → length (concatMap (listsOf f) bs) ≡ length (concatMap (crossings f) bs)
+  length-of-blocks bs = ap length (below-in-order bs) ∙ length-map (concatMap (crossings f) bs) inOrder
 
   pub length-lists : length (lists f) ≡ length (allCrossings f)
-  length-lists = ap length lists-in-order ∙ length-map (allCrossings f) inOrder
+  length-lists = length-of-blocks (upFrom 0 (length (f .blocks)))
 
   getD-in-order : (xs : List (Option NumberSet)) (i : ℕ) → getD (map inOrder xs) i none ≡ inOrder (getD xs i none)
   getD-in-order [] i = refl

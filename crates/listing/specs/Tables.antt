@@ -18,7 +18,7 @@ use Rattle.records.specs.Parts.{blockBody}
 use Rattle.lists.specs.Anys.{any-joined}
 use Rattle.graph.specs.Blocks.{placeOf, block-body, instructions-by-place}
 use Rattle.graph.specs.Sections.{places, sectionsAt, length-sectionsAt}
-use Rattle.graph.specs.Tables.{Given, tagFrom, indexTable, indexTable-at}
+use Rattle.graph.specs.Tables.{Given, tagFrom, indexTable, length-indexTable, indexTable-at}
 use Rattle.graph.specs.ByTable.{place-at, end-le, start-less, body-by-table}
 use Rattle.rows.specs.Rows.{rows, rowValues}
 use Rattle.fixpoint.specs.Finding.{update-here, update-again}
@@ -32,6 +32,16 @@ pub record IndexTables (s places index : List ℕ) : Type 0 where
   pub given : Given s places
   pub indexed : index ≡ indexTable (functionIn s) (length index)
   pub indexRoom : length (functionIn s .blocks) ≤ length index
+
+-- the indices follow from the file
+pub indices-given : (s places : List ℕ) → Given s places → IndexTables s places (indexTable (functionIn s) (length (functionIn s .blocks)))
+indices-given s places given =
+    let f = functionIn s in
+    record {
+      given = given;
+      indexed = ap (indexTable f) (sym (length-indexTable f (length (f .blocks))));
+      indexRoom = omega (arith, length-indexTable f (length (f .blocks)));
+    }
 
 -- with them the final live-out of its blocks, and room for a row an instruction
 pub record ListTables (s places index outs : List ℕ) (room : ℕ) : Type 0 where

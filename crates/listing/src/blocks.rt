@@ -1,17 +1,17 @@
 // The lists of all safepoints as rows, by instruction number: the instructions of each reachable block, the last one first.
 ghost use mathlib.Core.Path.{_≡_};
-ghost use mathlib.Core.Bool.{true};
-ghost use Prim.Native.Nat.{_+_, _-_, _*_, _<_, _≤_};
-ghost use lib.ListN.{length};
+ghost use Prim.Native.Nat.{_-_, _*_, _<_, _≤_};
+ghost use lib.ListN.{length, getD};
 ghost use Rattle.rules.specs.Limits.{rowWords};
-ghost use Rattle.rules.specs.Records.{recordCount, records};
-ghost use Rattle.rules.specs.File.{functionIn, ordered};
+ghost use Rattle.rules.specs.Records.{recordCount};
+ghost use Rattle.rules.specs.File.{functionIn};
 ghost use Rattle.rows.specs.Rows.{rows, HasRow};
 ghost use Rattle.blocksets.specs.InRows.{InRows};
-ghost use Rattle.rules.specs.Liveness.{lists as listsOf, isSpilled};
+ghost use Rattle.rules.specs.Liveness.{isSpilled};
 ghost use Rattle.rules.specs.Lists.{update, union};
 ghost use Rattle.graph.specs.Zeros.{Zeros};
-ghost use Rattle.listing.specs.Crossings.{fill, crossingsAmong, crossings, crossingsBelow, listed};
+ghost use Rattle.listing.specs.Crossings.{fill, crossingsAmong, crossings, listed};
+ghost use Rattle.listing.specs.Firsts.{Firsts};
 ghost use Rattle.listing.specs.Listed.{together};
 ghost use Rattle.listing.specs.Tables.{ListTables};
 ghost use Rattle.listing.specs.Stepping.{headsFrom, instructionsFrom, spotAt, liveAt, listsAt, Opened, BlockRecords};
@@ -25,22 +25,6 @@ use rules::ROW_WORDS;
 struct Spot {
     end: usize,
     number: usize,
-}
-
-// How many instructions start from a place on and before place end.
-pub fn count_instructions(s: &[u8], start: usize, end: usize) -> usize
-    requires { ⌜ (start ≤ end) × (end ≤ recordCount (now s)) × (ordered 0 (records (now s)) ≡ true) ⌝ }
-    ensures { λ r. ⌜ r ≡ length (headsFrom (now (s .entry)) start end) ⌝ }
-{
-    let mut count: usize = 0;
-    let mut p = end;
-    while p > start {
-        p -= 1;
-        if kind_at(s, p) == 4 {
-            count += 1;
-        }
-    }
-    count
 }
 
 // One record further back: nothing, but where an instruction starts its list, and what is live before it.
@@ -82,48 +66,44 @@ fn list_block(
     }
 }
 
-// The lists of block b, if it is reachable; the number of its first instruction is given. Answers the number behind its
-// last one.
+// The lists of block b, if it is reachable.
 fn list_reachable(
     s: &[u8],
     places: &[usize],
     index: &[usize],
     outs: &[u64],
+    firsts: &[usize],
     b: usize,
     lists: &mut [u64],
-    first: usize,
-) -> usize
-    requires { ⌜ ListTables (now s) (now places) (now index) (now outs) (length (now lists)) × (b < length (functionIn (now s) .blocks)) × (first ≡ length (crossingsBelow (functionIn (now s)) b)) ⌝ }
-    ensures { λ r. ⌜ (r ≡ length (crossingsBelow (functionIn (now (s .entry))) (b + 1))) × (rows (now (lists .exit)) ≡ fill first (crossings (functionIn (now (s .entry))) b) (rows (now (lists .entry)))) ⌝ }
+)
+    requires { ⌜ ListTables (now s) (now places) (now index) (now outs) (length (now lists)) × Firsts (now s) (now firsts) × (b < length (functionIn (now s) .blocks)) ⌝ }
+    ensures { λ _. ⌜ rows (now (lists .exit)) ≡ fill (getD (now (firsts .entry)) b 0) (crossings (functionIn (now (s .entry))) b) (rows (now (lists .entry))) ⌝ }
 {
-    let start = places[b] + 1;
-    let end = places[b + 1];
-    let behind = first + count_instructions(s, start, end);
     if index[b] != 0 {
-        list_block(s, start, end, outs, b, lists, behind);
+        let start = places[b] + 1;
+        let end = places[b + 1];
+        list_block(s, start, end, outs, b, lists, firsts[b + 1]);
     }
-    behind
 }
 
-// The list of every safepoint of a reachable block, as the row of its number. Answers how many instructions there are.
+// The list of every safepoint of a reachable block, as the row of its number.
 fn list_rows(
     s: &[u8],
     places: &[usize],
     blocks: usize,
     index: &[usize],
     outs: &[u64],
+    firsts: &[usize],
     lists: &mut [u64],
-) -> usize
-    requires { ⌜ ListTables (now s) (now places) (now index) (now outs) (length (now lists)) × (blocks ≡ length (functionIn (now s) .blocks)) × Zeros (now lists) ⌝ }
-    ensures { λ r. ⌜ (r ≡ length (listsOf (functionIn (now (s .entry))))) × (rows (now (lists .exit)) ≡ listed (functionIn (now (s .entry)))) ⌝ }
+)
+    requires { ⌜ ListTables (now s) (now places) (now index) (now outs) (length (now lists)) × Firsts (now s) (now firsts) × (blocks ≡ length (functionIn (now s) .blocks)) × Zeros (now lists) ⌝ }
+    ensures { λ _. ⌜ rows (now (lists .exit)) ≡ listed (functionIn (now (s .entry))) ⌝ }
 {
-    let mut first: usize = 0;
     let mut b: usize = 0;
     while b < blocks {
-        first = list_reachable(s, places, index, outs, b, lists, first);
+        list_reachable(s, places, index, outs, firsts, b, lists);
         b += 1;
     }
-    first
 }
 
 // The first row gets the values of all rows before row count.
@@ -138,21 +118,20 @@ fn join_rows(to: &mut [u64], from: &[u64], count: usize)
     }
 }
 
-// The list of every safepoint of a reachable block, as the row of its number, and the spilled values as one row. Answers
-// how many instructions there are.
+// The list of every safepoint of a reachable block, as the row of its number, and the spilled values as one row.
 pub fn list_safepoints(
     s: &[u8],
     places: &[usize],
     blocks: usize,
     index: &[usize],
     outs: &[u64],
+    firsts: &[usize],
     lists: &mut [u64],
     spilled: &mut [u64],
-) -> usize
-    requires { ⌜ ListTables (now s) (now places) (now index) (now outs) (length (now lists)) × (blocks ≡ length (functionIn (now s) .blocks)) × Zeros (now lists) × Zeros (now spilled) × HasRow (now spilled) 0 ⌝ }
-    ensures { λ r. ⌜ (r ≡ length (listsOf (functionIn (now (s .entry))))) × (rows (now (lists .exit)) ≡ listed (functionIn (now (s .entry)))) × (rows (now (spilled .exit)) ≡ update 0 (isSpilled (functionIn (now (s .entry)))) (rows (now (spilled .entry)))) ⌝ }
+)
+    requires { ⌜ ListTables (now s) (now places) (now index) (now outs) (length (now lists)) × Firsts (now s) (now firsts) × (blocks ≡ length (functionIn (now s) .blocks)) × Zeros (now lists) × Zeros (now spilled) × HasRow (now spilled) 0 ⌝ }
+    ensures { λ _. ⌜ (rows (now (lists .exit)) ≡ listed (functionIn (now (s .entry)))) × (rows (now (spilled .exit)) ≡ update 0 (isSpilled (functionIn (now (s .entry)))) (rows (now (spilled .entry)))) ⌝ }
 {
-    let count = list_rows(s, places, blocks, index, outs, lists);
-    join_rows(spilled, lists, count);
-    count
+    list_rows(s, places, blocks, index, outs, firsts, lists);
+    join_rows(spilled, lists, firsts[blocks]);
 }

@@ -10,8 +10,8 @@ ghost use Rattle.rules.specs.File.{functionIn, ordered};
 ghost use Rattle.rules.specs.Liveness.{lists};
 ghost use Rattle.listing.specs.Stepping.{instructionsFrom};
 ghost use Rattle.listing.specs.Tables.{IndexTables};
+ghost use Rattle.listing.specs.Firsts.{Firsts};
 ghost use Rattle.listing.specs.HasList.{isSafepointAt};
-use crate::blocks::count_instructions;
 use crate::instructions::is_safepoint;
 use records::in_order::kind_at;
 
@@ -41,24 +41,22 @@ pub fn is_reachable_safepoint(
     places: &[usize],
     blocks: usize,
     index: &[usize],
+    firsts: &[usize],
     i: usize,
 ) -> bool
-    requires { ⌜ IndexTables (now s) (now places) (now index) × (blocks ≡ length (functionIn (now s) .blocks)) ⌝ }
+    requires { ⌜ IndexTables (now s) (now places) (now index) × Firsts (now s) (now firsts) × (blocks ≡ length (functionIn (now s) .blocks)) ⌝ }
     ensures { λ r. ⌜ r ≡ not (isNone (getD (lists (functionIn (now (s .entry)))) i none)) ⌝ }
 {
-    let mut left = i;
     let mut b: usize = 0;
     while b < blocks {
-        let start = places[b] + 1;
-        let end = places[b + 1];
-        let count = count_instructions(s, start, end);
-        if left < count {
+        if i < firsts[b + 1] {
             if index[b] == 0 {
                 return false;
             }
-            return safepoint_in(s, start, end, left);
+            let start = places[b] + 1;
+            let end = places[b + 1];
+            return safepoint_in(s, start, end, i - firsts[b]);
         }
-        left -= count;
         b += 1;
     }
     false

@@ -24,7 +24,7 @@ use Rattle.graph.specs.Blocks.{placeOf, place-le, place-less}
 use Rattle.graph.specs.ByTable.{some, block-at-index, block-listed}
 use Rattle.graph.specs.Links.{Walked}
 use Rattle.graph.specs.Zeros.{Zeros, zeros-at}
-use Rattle.listing.specs.Crossings.{crossingsBelow}
+use Rattle.listing.specs.Firsts.{Firsts}
 use Rattle.numbering.specs.Beside.{blockPlanAt}
 use Rattle.planning.specs.Standing.{Tables, planOf, Kept}
 use Rattle.spiller.specs.Instructions.{anyKind}
@@ -33,10 +33,6 @@ use Rattle.planning_edges.specs.Stable.{Agree, mades-same}
 use Rattle.planner.specs.Backward.{plans-same}
 use Rattle.planner.specs.Blocks.{BlockGiven, BlockReady, BlockNoted}
 use Rattle.planner.specs.BlockTables.{PlanTables, block-given}
-
--- the number of each block's first instruction
-abbrev pub Firsts : List ℕ → List ℕ → Type 0
-Firsts s firsts = (b : ℕ) → b < length (functionIn s .blocks) → (b < length firsts) × (getD firsts b 0 ≡ length (crossingsBelow (functionIn s) b))
 
 -- the places of some blocks' records, and how many they are
 abbrev pub InBlocks : List ℕ → List ℕ → ℕ → Type 0
@@ -170,11 +166,11 @@ module _ (s places order table outs firsts : List ℕ) (count : ℕ) (w : Walked
         ap (λ (k : ℕ). take k (reachable function)) (add-one i) ∙ take-suc (reachable function) i 0 inRange
         ∙ ap (λ (x : ℕ). done i ++ (x ∷ [])) (sym (block-at-index w i))
 
-    pub block-read : (getD order i 0 < length firsts) × BlockGiven s table outs (getD order i 0) (getD firsts (getD order i 0) 0) (getD places (getD order i 0) 0 + 1) (getD places (getD order i 0 + 1) 0)
+    pub block-read : (getD order i 0 + 1 < length firsts) × BlockGiven s table outs (getD order i 0) (getD firsts (getD order i 0 + 1) 0) (getD places (getD order i 0) 0 + 1) (getD places (getD order i 0 + 1) 0)
     block-read =
         let low = block-listed w i l in
-        let own = numbered (getD order i 0) low in
-        (own .0, block-given s places table outs g (getD order i 0) (getD firsts (getD order i 0) 0) low (is-true (has (getD order i 0) (reachable function)) (∈→has member)) (own .1))
+        let room = numbered .room in
+        (omega arith, block-given s places table outs firsts g numbered (getD order i 0) low (is-true (has (getD order i 0) (reachable function)) (∈→has member)))
 
     module _ (pointer : ℕ) (u : Tables) (ms : List ℕ) (a : BlocksNoted s pointer (done i) t numbers u ms) where
       pub block-ready : Zeros numbers → recordCount s ≤ length numbers → Able function t (recordCount s) → BlockReady s (getD order i 0) u ms

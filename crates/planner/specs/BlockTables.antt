@@ -7,24 +7,27 @@ use mathlib.Core.Option.{Option, none}
 use mathlib.Core.List.{List, [], _∷_, _++_, map}
 use native.Mathlib.Omega.{arith}
 use native.Mathlib.Numerals.{add-one}
-use lib.ListN.{length, getD, length-append, length-map}
+use lib.ListN.{length, getD, length-map}
 use lib.Dec.{T}
 use Rattle.rules.specs.Limits.{rowWords}
 use Rattle.rules.specs.Lists.{concatMap, has, upFrom, zipWith, NumberSet}
 use Rattle.rules.specs.Tree.{Instruction, Function}
 use Rattle.rules.specs.File.{instructionOf, functionIn}
 use Rattle.rules.specs.Graph.{blockAt, instructionsOf, reachable}
-use Rattle.rules.specs.Liveness.{process, listsAmong, listsOf, lists}
+use Rattle.rules.specs.Liveness.{process, listsAmong, listsOf, lists, isSpilled}
 use Rattle.rules.specs.Refusals.{sound}
 use Rattle.lists.specs.Maps.{concatMap-append}
 use Rattle.graph.specs.Blocks.{placeOf}
 use Rattle.graph.specs.ByTable.{place-at}
 use Rattle.graph.specs.Sections.{sectionsAt, length-sectionsAt}
-use Rattle.graph.specs.Tables.{Given, indexTable, length-indexTable}
-use Rattle.listing.specs.Crossings.{crossings, crossingsBelow, length-crossings, listed}
+use Rattle.graph.specs.Tables.{Given, indexTable}
+use Rattle.listing.specs.Crossings.{crossingsBelow, listed}
+use Rattle.listing.specs.Firsts.{Firsts, first-behind}
+use Rattle.listing.specs.Listed.{length-of-blocks}
 use Rattle.listing.specs.Stepping.{headsFrom, instructionsFrom}
-use Rattle.listing.specs.Tables.{IndexTables, ListTables, block-records, instructions-by-table, below-fits, behind-block}
+use Rattle.listing.specs.Tables.{ListTables, indices-given, block-records, instructions-by-table, below-fits}
 use Rattle.rows.specs.Rows.{rows, rowValues}
+use Rattle.planner.specs.Backward.{listedAt}
 use Rattle.planner.specs.Blocks.{BlockGiven}
 use Rattle.planner.specs.RowLists.{row-lists}
 use Rattle.planner.specs.SoundEdges.{sound-edges}
@@ -80,19 +83,6 @@ module _ (f : Function) where
   listsOf-reachable b e =
       ap {B = List (Option (List ℕ))} (λ r. elim r [ true ↦ listsAmong f (instructionsOf (blockAt f b)) (process f .outs b) | false ↦ map (λ _. none) (instructionsOf (blockAt f b)) ]) e
 
-  -- as many lists as there are crossings
-  length-below : (bs : List ℕ) → length (concatMap (listsOf f) bs) ≡ length (concatMap (crossings f) bs)
-  length-below [] = refl
-  length-below (b ∷ bs) =
-      omega (
-        arith,
-        length-append (listsOf f b) (concatMap (listsOf f) bs),
-        length-append (crossings f b) (concatMap (crossings f) bs),
-        length-listsOf b,
-        length-crossings f b,
-        length-below bs,
-      )
-
   -- the lists of a block, among those of the file
   list-in-block :
       (b j : ℕ) → b < length (f .blocks) → j < length (instructionsOf (blockAt f b))
@@ -108,21 +98,11 @@ module _ (f : Function) where
       ∙ concatMap-append (listsOf f) (upFrom 0 b) ((0 + b) ∷ upFrom (suc (0 + b)) (n - suc b))
       ∙ ap (λ (k : ℕ). concatMap (listsOf f) (upFrom 0 b) ++ (listsOf f k ++ rest)) same in
       sym
-      (ap₂ (λ (ls : List (Option (List ℕ))) (k : ℕ). getD ls (k + j) none) split (sym (length-below (upFrom 0 b)))
+      (ap₂ (λ (ls : List (Option (List ℕ))) (k : ℕ). getD ls (k + j) none) split (sym (length-of-blocks f (upFrom 0 b)))
       ∙ getD-behind (concatMap (listsOf f) (upFrom 0 b)) (listsOf f b ++ rest) j none
       ∙ getD-front (listsOf f b) rest j none (omega (arith, length-listsOf b)))
 
--- a file by its table, with the indices of its blocks
-pub indices-given : (s places : List ℕ) → Given s places → IndexTables s places (indexTable (functionIn s) (length (functionIn s .blocks)))
-indices-given s places given =
-    let f = functionIn s in
-    record {
-      given = given;
-      indexed = ap (indexTable f) (sym (length-indexTable f (length (f .blocks))));
-      indexRoom = omega (arith, length-indexTable f (length (f .blocks)));
-    }
-
-module _ (s places table outs : List ℕ) (t : PlanTables s places table outs) (b first : ℕ) (l : b < length (functionIn s .blocks)) where
+module _ (s places table outs firsts : List ℕ) (t : PlanTables s places table outs) (numbered : Firsts s firsts) (b : ℕ) (l : b < length (functionIn s .blocks)) where
   abbrev f′ : Function
   f′ = functionIn s
 
@@ -143,10 +123,15 @@ module _ (s places table outs : List ℕ) (t : PlanTables s places table outs) (
       }
 
   -- THE LAW.
-  pub block-given : has b (reachable f′) ≡ true → first ≡ length (crossingsBelow f′ b) → BlockGiven s table outs b first start end
-  block-given reached counts =
+  pub block-given : has b (reachable f′) ≡ true → BlockGiven s table outs b (getD firsts (b + 1) 0) start end
+  block-given reached =
       let is = instructions-by-table (tabled .tables) b l in
       let heads = headsFrom s start end in
+      let first = getD firsts b 0 in
+      let behind = getD firsts (b + 1) 0 in
+      let counts = numbered .number b (omega arith) in
+      let sum = first-behind (t .given) numbered b l in
+      let from : behind - length heads ≡ first = omega (arith, sum) in
       let long : length heads ≡ length (instructionsOf (blockAt f′ b)) =
       sym (length-map (sectionsAt s end heads) instructionOf ∙ length-sectionsAt s end heads) ∙ ap length is in
       let own : listsAmong f′ (instructionsFrom s start end) (process f′ .outs b) ≡ listsOf f′ b =
@@ -159,9 +144,11 @@ module _ (s places table outs : List ℕ) (t : PlanTables s places table outs) (
         edges = sound-edges s places (t .given) (t .isSound);
         live = ap (λ (r : ℕ → NumberSet). r b) (t .live);
         inOuts = omega (arith, t .outsRoom);
-        inLists = omega (arith, behind-block (tabled .tables) b l first (length heads) counts refl, below-fits tabled (b + 1) (omega arith));
+        enough = omega (arith, sum);
+        inLists = omega (arith, numbered .number (b + 1) (omega arith), below-fits tabled (b + 1) (omega arith));
         listed =
-            row-lists s table (t .rowsAre) end (process f′ .outs b) heads first
+            ap (λ (n : ℕ). listedAt s table (isSpilled f′) end n heads) from
+            ∙ row-lists s table (t .rowsAre) end (process f′ .outs b) heads first
             (λ j m.
             ap (λ (ls : List (Option (List ℕ))). getD ls j none) own
             ∙ list-in-block f′ b j l (omega (arith, long))

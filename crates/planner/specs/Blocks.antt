@@ -51,8 +51,8 @@ abbrev pub BlockReady : List ℕ → ℕ → Tables → List ℕ → Type 0
 BlockReady s b = Ready (functionIn s) (Within s anyKind (placeOf s b) (placeOf s (suc b))) (placeOf s (suc b)) (placeOf s (suc b) - placeOf s b)
 
 -- WHAT IS KNOWN OF A BLOCK whose records stand from place start on and before place end: its live-out is a row, and so are the
--- lists of its instructions, from the first one's number on.
-pub record BlockGiven (s lists outs : List ℕ) (b first start end : ℕ) : Type 0 where
+-- lists of its instructions, up to the number behind its last one's.
+pub record BlockGiven (s lists outs : List ℕ) (b behind start end : ℕ) : Type 0 where
   pub starts : start ≡ suc (placeOf s b)
   pub ends : end ≡ placeOf s (suc b)
   pub inFile : b < length (functionIn s .blocks)
@@ -60,10 +60,11 @@ pub record BlockGiven (s lists outs : List ℕ) (b first start end : ℕ) : Type
   pub edges : SoundEdges s
   pub live : rows outs b ≡ process (functionIn s) .outs b
   pub inOuts : HasRow outs b
-  pub inLists : rowWords * (first + length (headsFrom s start end)) ≤ length lists
-  pub listed : listedAt s lists (isSpilled (functionIn s)) end first (headsFrom s start end) ≡ listedInstructions (functionIn s) b
+  pub enough : length (headsFrom s start end) ≤ behind
+  pub inLists : rowWords * behind ≤ length lists
+  pub listed : listedAt s lists (isSpilled (functionIn s)) end (behind - length (headsFrom s start end)) (headsFrom s start end) ≡ listedInstructions (functionIn s) b
 
-module _ (s lists outs spilled : List ℕ) (b first start end : ℕ) (x : BlockGiven s lists outs b first start end) (r : Reading s spilled) (front : ℕ)
+module _ (s lists outs spilled : List ℕ) (b behind start end : ℕ) (x : BlockGiven s lists outs b behind start end) (r : Reading s spilled) (front : ℕ)
     (is : front ≡ runEnd s 3 start end) where
   abbrev f : Function
   f = functionIn s
@@ -111,10 +112,6 @@ module _ (s lists outs spilled : List ℕ) (b first start end : ℕ) (x : BlockG
   heads-there =
       places-parted s (eqb 4) start front end (parts .0) (parts .1) (x .records .inside)
       ∙ ap (λ (ps : List ℕ). ps ++ headsFrom s front end) (places-none 4 start (between s start front) (ofKind-other 4 3 tt (between s start front) (parts .2)))
-
-  -- its last instruction's number is in the lists
-  pub behind-fits : rowWords * (first + length (headsFrom s front end)) ≤ length lists
-  behind-fits = omega (arith, x .inLists, ap length heads-there)
 
   parameters-are : named 3 (between s start front) ≡ blockAt f b .parameters
   parameters-are =
@@ -175,10 +172,8 @@ module _ (s lists outs spilled : List ℕ) (b first start end : ℕ) (x : BlockG
           }
 
       -- instructions, the last one first,
-      pub block-walk :
-          (behind : ℕ) → behind ≡ first + length (headsFrom s front end)
-          → Walk s lists start front end behind × Ready f (Within s anyKind front end) end (end - front) t₁ n₀
-      block-walk behind sum =
+      pub block-walk : Walk s lists start front end behind × Ready f (Within s anyKind front end) end (end - front) t₁ n₀
+      block-walk =
           let low = parts .0 in
           let high = parts .1 in (
             record {
@@ -187,14 +182,14 @@ module _ (s lists outs spilled : List ℕ) (b first start end : ℕ) (x : BlockG
               high = high;
               first = first-instruction;
               edges = x .edges;
-              enough = omega (arith, sum);
-              inLists = omega (arith, sum, x .inLists, ap length heads-there);
+              enough = omega (arith, x .enough, ap length heads-there);
+              inLists = x .inLists;
             },
             ready-less f (Within s anyKind start end) (Within s anyKind front end) end end ((end - front) + (front - start)) (end - front) t₁ n₀
                 (λ j w. (omega (arith, w .0), w .1, tt)) (omega arith) (omega arith) left₁,
           )
 
-      module _ (behind : ℕ) (sum : behind ≡ first + length (headsFrom s front end)) (t₂ : Tables) (n₁ : List ℕ)
+      module _ (t₂ : Tables) (n₁ : List ℕ)
           (i : InstructionsNoted s lists (rows spilled 0) end (p .pointer) front (behind - length (headsFrom s front end)) t₁ n₀ t₂ n₁) where
         left₂ : Ready f (Within s (eqb 3) start front) front (front - start) t₂ n₁
         left₂ =
@@ -217,9 +212,8 @@ module _ (s lists outs spilled : List ℕ) (b first start end : ℕ) (x : BlockG
             let high = parts .1 in
             let inside = x .records .inside in
             let d = definitions-done s 3 start front low (omega arith) (front - start) t₂ n₁ (λ e. omega (arith, e)) left₂ (p .pointer) (i .kept .pointer) t₃ n₂ walked in
-            let number : behind - length (headsFrom s front end) ≡ first = omega (arith, sum) in
             let lists-are : listedAt s lists (rows spilled 0) end (behind - length (headsFrom s front end)) (headsFrom s front end) ≡ listedInstructions f b =
-            (λ j. listedAt s lists (r .isRow j) end (number j) (sym heads-there j)) ∙ x .listed in
+            (λ j. listedAt s lists (r .isRow j) end (behind - length (sym heads-there j)) (sym heads-there j)) ∙ x .listed in
             let is′ : instructionPlansAt s n₂ end (headsFrom s front end) ≡ instructionPlansAt s n₁ end (headsFrom s front end) =
             plans-same s n₂ n₁ front end high inside (λ j w. d .same j (λ z. omega (arith, w .0, z .1))) in
             record {

@@ -24,6 +24,7 @@ use Rattle.graph.specs.Few.{records-few, values-few, blocks-few}
 use Rattle.graph.specs.Links.{Walked}
 use Rattle.graph.specs.Zeros.{Zeros}
 use Rattle.listing.specs.Crossings.{listed}
+use Rattle.listing.specs.Firsts.{Firsts}
 use Rattle.rows.specs.Rows.{rows, rowValues, HasRow, rows-zeros}
 use Rattle.numbering.specs.Beside.{blockPlanAt}
 use Rattle.numbering.specs.NewValues.{newValues}
@@ -32,7 +33,7 @@ use Rattle.planning.specs.Operands.{Reading}
 use Rattle.planning.specs.Standing.{Tables, tables, noted, slotsBy, planOf, Good}
 use Rattle.planning.specs.Walking.{good-less}
 use Rattle.planning_edges.specs.Noted.{SameBut, Able}
-use Rattle.planner.specs.AllBlocks.{Firsts, InBlocks, widths, BlocksNoted}
+use Rattle.planner.specs.AllBlocks.{InBlocks, widths, BlocksNoted}
 use Rattle.planner.specs.BlockTables.{PlanTables}
 use Rattle.planner.specs.declared.functions.FunctionSize.{FunctionSize}
 

@@ -5,4 +5,3 @@ pub mod RowLists
 pub mod BlockTables
 pub mod AllBlocks
 pub mod Functions
-pub mod FirstNumbers

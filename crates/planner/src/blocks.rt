@@ -14,7 +14,6 @@ ghost use Rattle.spiller.specs.Instructions.{anyKind};
 ghost use Rattle.planning_edges.specs.Noted.{Within, Ready};
 ghost use Rattle.planner.specs.Backward.{LastBefore, Walk, InstructionsNoted};
 ghost use Rattle.planner.specs.Blocks.{BlockGiven, BlockReady, BlockNoted};
-use listing::blocks::count_instructions;
 use listing::runs::run_end;
 use planning::Progress;
 use planning::asks::ask_all;
@@ -91,10 +90,10 @@ pub fn plan_instructions(
     done
 }
 
-// A block by its number, and the number of its first instruction.
+// A block by its number, and the number behind its last instruction's.
 pub struct BlockNumber {
     pub block: usize,
-    pub first: usize,
+    pub behind: usize,
 }
 
 // A block, whose live-out is a row.
@@ -111,14 +110,13 @@ pub fn plan_block(
     numbers: &mut [u32],
     p: Progress,
 ) -> Progress
-    requires { ⌜ Reading (now s) (now spilled) × Given (now s) (now places) × BlockGiven (now s) (now lists) (now outs) (at .block) (at .first) (getD (now places) (at .block) 0 + 1) (getD (now places) (at .block + 1) 0) × BlockReady (now s) (at .block) (tables (now asked) (now steps) (now sizes) p) (now numbers) ⌝ }
+    requires { ⌜ Reading (now s) (now spilled) × Given (now s) (now places) × BlockGiven (now s) (now lists) (now outs) (at .block) (at .behind) (getD (now places) (at .block) 0 + 1) (getD (now places) (at .block + 1) 0) × BlockReady (now s) (at .block) (tables (now asked) (now steps) (now sizes) p) (now numbers) ⌝ }
     ensures { λ r. ⌜ BlockNoted (now (s .entry)) (p .pointer) (at .block) (tables (now (asked .entry)) (now (steps .entry)) (now (sizes .entry)) p) (now (numbers .entry)) (tables (now (asked .exit)) (now (steps .exit)) (now (sizes .exit)) r) (now (numbers .exit)) ⌝ }
 {
     let b = at.block;
     let start = places[b] + 1;
     let end = places[b + 1];
     let front = run_end(s, 3, start, end);
-    let behind = at.first + count_instructions(s, front, end);
     let count = ask_all(spilled, outs, b, p.given, asked, steps, p.steps);
     let slotted = Progress {
         pointer: p.pointer,
@@ -131,7 +129,7 @@ pub fn plan_block(
         start,
         front,
         end,
-        behind,
+        behind: at.behind,
     };
     let done = plan_instructions(
         s,

@@ -1,41 +1,21 @@
 // The whole function: all reachable blocks by ascending index.
-ghost use mathlib.Core.Path.{_≡_};
 ghost use Prim.Native.Nat.{_≤_};
 ghost use lib.ListN.{length};
 ghost use Rattle.rules.specs.Records.{recordCount};
 ghost use Rattle.rules.specs.File.{functionIn};
 ghost use Rattle.rules.specs.Graph.{reachable};
 ghost use Rattle.graph.specs.Links.{Walked};
-ghost use Rattle.graph.specs.Tables.{Given};
 ghost use Rattle.graph.specs.Zeros.{Zeros};
+ghost use Rattle.listing.specs.Firsts.{Firsts};
 ghost use Rattle.planning.specs.Operands.{Reading};
 ghost use Rattle.planning.specs.Standing.{tables};
 ghost use Rattle.planning_edges.specs.Noted.{Able};
-ghost use Rattle.planner.specs.AllBlocks.{Firsts, BlocksNoted};
+ghost use Rattle.planner.specs.AllBlocks.{BlocksNoted};
 ghost use Rattle.planner.specs.BlockTables.{PlanTables};
-ghost use Rattle.planner.specs.FirstNumbers.{NumberedTo};
 ghost use Rattle.planner.specs.Functions.{PlanGiven, PlanLent, unplanned, FunctionPlanned};
 use crate::blocks::BlockNumber;
 use crate::blocks::plan_block;
-use listing::blocks::count_instructions;
 use planning::Progress;
-
-// Notes the number of each block's first instruction.
-pub fn number_instructions(s: &[u8], places: &[usize], blocks: usize, firsts: &mut [usize])
-    requires { ⌜ Given (now s) (now places) × (blocks ≡ length (functionIn (now s) .blocks)) × (blocks ≤ length (now firsts)) ⌝ }
-    ensures { λ _. ⌜ NumberedTo (now (s .entry)) blocks (now (firsts .entry)) (now (firsts .exit)) ⌝ }
-{
-    let mut first: usize = 0;
-    let mut b: usize = 0;
-    while b < blocks {
-        firsts[b] = first;
-        let start = places[b] + 1;
-        let end = places[b + 1];
-        let count = count_instructions(s, start, end);
-        first += count;
-        b += 1;
-    }
-}
 
 // The reachable blocks, which a table lists by index; another has the number of each block's first instruction.
 pub fn plan_blocks(
@@ -62,7 +42,7 @@ pub fn plan_blocks(
         let b = order[i];
         let at = BlockNumber {
             block: b,
-            first: firsts[b],
+            behind: firsts[b + 1],
         };
         done = plan_block(
             s,

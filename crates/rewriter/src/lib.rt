@@ -6,6 +6,7 @@ ghost use lib.Dec.{eqb};
 ghost use lib.ListN.{length, replicate};
 ghost use Rattle.outcomes.specs.Outcomes.{RewritingAllows};
 ghost use Rattle.acceptance.specs.Survey.{Indexed};
+ghost use Rattle.listing.specs.Firsts.{Firsts};
 ghost use Rattle.rewriting.specs.Answers.{refusedBy, Outcome};
 ghost use Rattle.rewriting.specs.Rows.{LiveRows, PointerFine};
 use acceptance::survey::BlockCounts;
@@ -14,6 +15,7 @@ use acceptance::verdict::is_accepted;
 use analysis::tables::live_tables;
 use buffers::clear_bytes;
 use listing::blocks::list_safepoints;
+use listing::firsts::number_instructions;
 use rewriting::Found;
 use rewriting::spilled::rewrite_spilled;
 use rows::count;
@@ -59,6 +61,7 @@ fn rewrite_live(
     places: &[usize],
     order: &[usize],
     index: &[usize],
+    firsts: &[usize],
     outs: &[u64],
     lists: &[u64],
     spilled: &[u64],
@@ -66,7 +69,7 @@ fn rewrite_live(
     pointer: u32,
     out: &mut [u8],
 ) -> RewritingAnswer
-    requires { ⌜ LiveRows (now s) (now places) (now order) (now index) (now outs) (now lists) (now spilled) found × PointerFine pointer × (now out ≡ replicate (length (now out)) 0) ⌝ }
+    requires { ⌜ LiveRows (now s) (now places) (now order) (now index) (now outs) (now lists) (now spilled) found × PointerFine pointer × (now out ≡ replicate (length (now out)) 0) × Firsts (now s) (now firsts) ⌝ }
     ensures { λ r. ⌜ Outcome (now (s .entry)) pointer (length (now (out .entry))) r (now (out .exit)) ⌝ }
 {
     if !has_slot_sizes(s, spilled, places[0]) {
@@ -89,6 +92,7 @@ fn rewrite_live(
         places,
         order,
         index,
+        firsts,
         outs,
         lists,
         spilled,
@@ -111,23 +115,35 @@ fn rewrite_accepted(
     requires { ⌜ Indexed (now s) (now places) (now order) (now index) blocks × PointerFine pointer × (now out ≡ replicate (length (now out)) 0) ⌝ }
     ensures { λ r. ⌜ Outcome (now (s .entry)) pointer (length (now (out .entry))) r (now (out .exit)) ⌝ }
 {
+    let mut firsts: [usize; LARGEST_BLOCKS + 1] = [0; LARGEST_BLOCKS + 1];
     let mut ins: [u64; TABLE_WORDS] = [0; TABLE_WORDS];
     let mut outs: [u64; TABLE_WORDS] = [0; TABLE_WORDS];
     let mut lists: [u64; LARGEST_INSTRUCTIONS * ROW_WORDS] = [0; LARGEST_INSTRUCTIONS * ROW_WORDS];
     let mut spilled: [u64; ROW_WORDS] = [0; ROW_WORDS];
-    let live = live_tables(s, places, order, blocks, &mut ins, &mut outs);
     let all = blocks.all;
-    let instructions = list_safepoints(s, places, all, index, &outs, &mut lists, &mut spilled);
+    number_instructions(s, places, all, &mut firsts);
+    let live = live_tables(s, places, order, blocks, &mut ins, &mut outs);
+    list_safepoints(
+        s,
+        places,
+        all,
+        index,
+        &outs,
+        &firsts,
+        &mut lists,
+        &mut spilled,
+    );
     let found = Found {
         blocks,
         live,
-        instructions,
+        instructions: firsts[all],
     };
     rewrite_live(
         s,
         places,
         order,
         index,
+        &firsts,
         &outs,
         &lists,
         &spilled,

@@ -24,9 +24,9 @@ use Rattle.graph.specs.Zeros.{Zeros, zeros-zeros}
 use Rattle.rows.specs.Rows.{rows, rowValues}
 use Rattle.listing.specs.Ascending.{length-lists-instructions}
 use Rattle.listing.specs.Crossings.{listed}
+use Rattle.listing.specs.Firsts.{Firsts}
 use Rattle.numbering.specs.Beside.{made}
 use Rattle.planning.specs.Standing.{Tables, tables, slotsBy}
-use Rattle.planner.specs.FirstNumbers.{NumberedTo, numbered-firsts}
 use Rattle.planner.specs.Functions.{PlanGiven, FunctionPlanned}
 use Rattle.planner.specs.Functions.{PlanLent as LentToPlanner}
 use Rattle.layout.specs.Whole.{PlanTables}
@@ -94,21 +94,17 @@ module _ {s places order outs lists′ spilled : List ℕ} {found : Found} (h : 
   values-small : length (f .values) ≤ rowValues
   values-small = values-few s (accepted-is s (h .accepted) .readable .few)
 
-  -- a table of the first instructions' numbers has room
-  pub firsts-room : (n : ℕ) → largestBlocks ≤ n → found .blocks .all ≤ n
-  firsts-room n l = omega (arith, h .all-counted, blocks-small, l)
-
   -- PLANNING can begin
   pub plan-given :
-      (lent firsts : List ℕ) → NumberedTo s (found .blocks .all) lent firsts → largestBlocks ≤ length lent → (pointer values : ℕ) → values ≡ getD places 0 0
+      {firsts : List ℕ} → Firsts s firsts → (pointer values : ℕ) → values ≡ getD places 0 0
       → PlanGiven s places order firsts spilled lists′ outs
       (record { pointer = pointer; values = values; blocks = found .blocks .all; reachable = found .blocks .reachable })
-  plan-given lent firsts numbered l pointer values v =
+  plan-given numbered pointer values v =
       let r = accepted-is s (h .accepted) .readable in
       record {
         accepted = h .accepted;
         walked = h .walked;
-        numbered = numbered-firsts s lent firsts (subst (λ (b : ℕ). NumberedTo s b lent firsts) (h .all-counted) numbered) (omega (arith, blocks-small, l));
+        numbered = numbered;
         spilledRow = omega (arith, h .spilled-long);
         spilledAre = h .spilled-row;
         live = h .live;

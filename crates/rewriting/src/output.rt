@@ -3,6 +3,7 @@ ghost use mathlib.Core.Path.{_≡_};
 ghost use Prim.Native.Nat.{_<_, _^_};
 ghost use lib.ListN.{length, replicate};
 ghost use Rattle.rules.specs.Services.{recordsOf};
+ghost use Rattle.listing.specs.Firsts.{Firsts};
 ghost use Rattle.rewriting.specs.Answers.{Outcome};
 ghost use Rattle.rewriting.specs.Plans.{PlanFound};
 use crate::Found;
@@ -44,6 +45,7 @@ pub fn write_planned(
     s: &[u8],
     places: &[usize],
     index: &[usize],
+    firsts: &[usize],
     lists: &[u64],
     numbers: &[u32],
     slots: &[u32],
@@ -53,7 +55,7 @@ pub fn write_planned(
     planned: Planned,
     out: &mut [u8],
 ) -> RewritingAnswer
-    requires { ⌜ PlanFound (now s) (now places) (now index) (now lists) (now numbers) (now slots) (now «new_sizes») (now «slot_sizes») found planned × (now out ≡ replicate (length (now out)) 0) ⌝ }
+    requires { ⌜ PlanFound (now s) (now places) (now index) (now lists) (now numbers) (now slots) (now «new_sizes») (now «slot_sizes») found planned × (now out ≡ replicate (length (now out)) 0) × Firsts (now s) (now firsts) ⌝ }
     ensures { λ r. ⌜ Outcome (now (s .entry)) (planned .pointer) (length (now (out .entry))) r (now (out .exit)) ⌝ }
 {
     let records = count_records(
@@ -91,6 +93,7 @@ pub fn write_planned(
         s,
         places,
         index,
+        firsts,
         numbers,
         slots,
         lists,

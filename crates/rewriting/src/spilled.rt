@@ -1,6 +1,7 @@
 // Rewriting of a file of which some value is spilled.
 ghost use mathlib.Core.Path.{_≡_};
 ghost use lib.ListN.{length, replicate};
+ghost use Rattle.listing.specs.Firsts.{Firsts};
 ghost use Rattle.rewriting.specs.Answers.{Outcome};
 ghost use Rattle.rewriting.specs.Rows.{Spilling};
 use crate::Found;
@@ -16,6 +17,7 @@ pub fn rewrite_spilled(
     places: &[usize],
     order: &[usize],
     index: &[usize],
+    firsts: &[usize],
     outs: &[u64],
     lists: &[u64],
     spilled: &[u64],
@@ -23,7 +25,7 @@ pub fn rewrite_spilled(
     pointer: u32,
     out: &mut [u8],
 ) -> RewritingAnswer
-    requires { ⌜ Spilling (now s) (now places) (now order) (now index) (now outs) (now lists) (now spilled) found pointer × (now out ≡ replicate (length (now out)) 0) ⌝ }
+    requires { ⌜ Spilling (now s) (now places) (now order) (now index) (now outs) (now lists) (now spilled) found pointer × (now out ≡ replicate (length (now out)) 0) × Firsts (now s) (now firsts) ⌝ }
     ensures { λ r. ⌜ Outcome (now (s .entry)) pointer (length (now (out .entry))) r (now (out .exit)) ⌝ }
 {
     let mut numbers: [u32; LARGEST_RECORDS] = [0; LARGEST_RECORDS];
@@ -34,6 +36,7 @@ pub fn rewrite_spilled(
         s,
         places,
         order,
+        firsts,
         outs,
         lists,
         spilled,
@@ -48,6 +51,7 @@ pub fn rewrite_spilled(
         s,
         places,
         index,
+        firsts,
         lists,
         &numbers,
         &slots,

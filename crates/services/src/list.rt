@@ -12,6 +12,7 @@ use acceptance::verdict::is_accepted;
 use analysis::tables::live_tables;
 use buffers::clear_numbers;
 use listing::blocks::list_safepoints;
+use listing::firsts::number_instructions;
 use listing::numbers::list_numbers;
 use listing::safepoints::is_reachable_safepoint;
 use rows::count;
@@ -63,15 +64,26 @@ fn list_instruction(
     requires { ⌜ Indexed (now s) (now places) (now order) (now index) blocks × (now out ≡ replicate (length (now out)) 0) ⌝ }
     ensures { λ r. ⌜ ListAllows (now (s .entry)) instruction (length (now (out .entry))) r (now (out .exit)) ⌝ }
 {
+    let mut firsts: [usize; LARGEST_BLOCKS + 1] = [0; LARGEST_BLOCKS + 1];
     let mut ins: [u64; TABLE_WORDS] = [0; TABLE_WORDS];
     let mut outs: [u64; TABLE_WORDS] = [0; TABLE_WORDS];
     let mut lists: [u64; LARGEST_INSTRUCTIONS * ROW_WORDS] = [0; LARGEST_INSTRUCTIONS * ROW_WORDS];
     let mut spilled: [u64; ROW_WORDS] = [0; ROW_WORDS];
-    live_tables(s, places, order, blocks, &mut ins, &mut outs);
     let all = blocks.all;
-    list_safepoints(s, places, all, index, &outs, &mut lists, &mut spilled);
+    number_instructions(s, places, all, &mut firsts);
+    live_tables(s, places, order, blocks, &mut ins, &mut outs);
+    list_safepoints(
+        s,
+        places,
+        all,
+        index,
+        &outs,
+        &firsts,
+        &mut lists,
+        &mut spilled,
+    );
     let i = instruction as usize;
-    if !is_reachable_safepoint(s, places, all, index, i) {
+    if !is_reachable_safepoint(s, places, all, index, &firsts, i) {
         return ListAnswer {
             verdict: Verdict::NoSafepoint,
             count: 0,

@@ -1,52 +1,47 @@
 -- `layout::laying::put_blocks` meets its contract.
-use borrow.Author.Needs.{needs}
-use Rattle.layout.specs.Laid.{tables-readable, blockPartAt, number-none}
-use Rattle.layout.specs.BlockRuns.{numberAt}
-use Rattle.writing.specs.Places.{fromTo, wrote-start, wrote-turn, turn-room}
-use Rattle.writing.specs.Wrote.{Wrote, lent-room}
-use Rattle.rows.specs.Rows.{rows}
-use lib.ListN.{getD}
-use Prim.Native.Nat.{_-_, _≤_}
 use native.Mathlib.Omega.{arith}
+use borrow.Author.Needs.{needs}
 use mathlib.Core.Path.{_≡_, refl}
+use Prim.Native.Nat.{_-_, _≤_}
+use Rattle.rows.specs.Rows.{rows}
+use Rattle.writing.specs.Wrote.{Wrote, lent-room}
+use Rattle.writing.specs.Places.{fromTo, wrote-start, wrote-turn, turn-room}
+use Rattle.layout.specs.Laid.{blockPartAt}
 use Rattle.layout.proofs.laying.put_blocks.Statement.{statement}
 use Rattle.layout.proofs.laying.put_blocks.Tie as tie
 
 abbrev Inv-loop : tie.InvT-loop
-Inv-loop s places blocks index numbers slots lists values out₀ at₀ first₀ b₀ out at first b = (0 ≤ b) × (b ≤ blocks) × (first ≡ numberAt s (getD places b 0)) × Wrote out₀ (fromTo (blockPartAt s places numbers slots values (rows lists)) 0 b) at out
+Inv-loop s places blocks index firsts numbers slots lists values out₀ at₀ b₀ out at b = (0 ≤ b) × (b ≤ blocks) × Wrote out₀ (fromTo (blockPartAt s places numbers slots values (rows lists)) 0 b) at out
 
 abbrev μ-loop : tie.MeasureT-loop
-μ-loop s places blocks index numbers slots lists values out₀ at₀ first₀ b₀ out at first b = blocks - b
+μ-loop s places blocks index firsts numbers slots lists values out₀ at₀ b₀ out at b = blocks - b
 
 loop-holds : tie.Need-loop-holds Inv-loop μ-loop
-loop-holds c = (search needs, search needs, number-none (c .before .before .before .before .before .before .before .pre .0 .tables .given), wrote-start _ _ _)
+loop-holds c = (search needs, search needs, wrote-start _ _ _)
 
 sub-put-laid : tie.Need-sub-put-laid Inv-loop μ-loop
 sub-put-laid c =
-    let g = blockPartAt (c .before .before .before .before .before .before .before .before .before .args .s .now) (c .before .before .before .before .before .before .before .before .before .args .places .now) (c .before .before .before .before .before .before .before .before .before .args .numbers .now) (c .before .before .before .before .before .before .before .before .before .args .slots .now) (c .before .before .before .before .before .before .before .before .before .args .values) (rows (c .before .before .before .before .before .before .before .before .before .args .lists .now)) in
-    let fits = turn-room g 0 (c .before .loop .b) (c .before .loop .inv .0) (c .before .before .before .before .before .before .before .before .before .args .blocks) (c .loop-test .taken) (c .before .before .before .before .before .before .before .before .before .pre .2) (c .before .loop .inv .3) in omega arith
+    let g = blockPartAt (c .before .before .before .before .before .before .before .before .before .before .args .s .now) (c .before .before .before .before .before .before .before .before .before .before .args .places .now) (c .before .before .before .before .before .before .before .before .before .before .args .numbers .now) (c .before .before .before .before .before .before .before .before .before .before .args .slots .now) (c .before .before .before .before .before .before .before .before .before .before .args .values) (rows (c .before .before .before .before .before .before .before .before .before .before .args .lists .now)) in
+    let fits = turn-room g 0 (c .before .loop .b) (c .before .loop .inv .0) (c .before .before .before .before .before .before .before .before .before .before .args .blocks) (c .loop-test .taken) (c .before .before .before .before .before .before .before .before .before .before .pre .3) (c .before .loop .inv .2) in omega arith
 
 part-put-laid-start : tie.Need-part-put-laid-start Inv-loop μ-loop
 part-put-laid-start c =
-    let g = blockPartAt (c .before .before .before .before .before .before .before .before .before .args .s .now) (c .before .before .before .before .before .before .before .before .before .args .places .now) (c .before .before .before .before .before .before .before .before .before .args .numbers .now) (c .before .before .before .before .before .before .before .before .before .args .slots .now) (c .before .before .before .before .before .before .before .before .before .args .values) (rows (c .before .before .before .before .before .before .before .before .before .args .lists .now)) in
-    let fits = turn-room g 0 (c .before .loop .b) (c .before .loop .inv .0) (c .before .before .before .before .before .before .before .before .before .args .blocks) (c .loop-test .taken) (c .before .before .before .before .before .before .before .before .before .pre .2) (c .before .loop .inv .3) in omega arith
+    let g = blockPartAt (c .before .before .before .before .before .before .before .before .before .before .args .s .now) (c .before .before .before .before .before .before .before .before .before .before .args .places .now) (c .before .before .before .before .before .before .before .before .before .before .args .numbers .now) (c .before .before .before .before .before .before .before .before .before .before .args .slots .now) (c .before .before .before .before .before .before .before .before .before .before .args .values) (rows (c .before .before .before .before .before .before .before .before .before .before .args .lists .now)) in
+    let fits = turn-room g 0 (c .before .loop .b) (c .before .loop .inv .0) (c .before .before .before .before .before .before .before .before .before .before .args .blocks) (c .loop-test .taken) (c .before .before .before .before .before .before .before .before .before .before .pre .3) (c .before .loop .inv .2) in omega arith
 
 part-put-laid-end : tie.Need-part-put-laid-end Inv-loop μ-loop
 part-put-laid-end c = search needs
 
 put-laid-requires : tie.Need-put-laid-requires Inv-loop μ-loop
 put-laid-requires c κs =
-    let g = blockPartAt (c .before .before .before .before .before .before .before .before .before .before .args .s .now) (c .before .before .before .before .before .before .before .before .before .before .args .places .now) (c .before .before .before .before .before .before .before .before .before .before .args .numbers .now) (c .before .before .before .before .before .before .before .before .before .before .args .slots .now) (c .before .before .before .before .before .before .before .before .before .before .args .values) (rows (c .before .before .before .before .before .before .before .before .before .before .args .lists .now)) in
-    let fits = turn-room g 0 (c .before .before .loop .b) (c .before .before .loop .inv .0) (c .before .before .before .before .before .before .before .before .before .before .args .blocks) (c .before .loop-test .taken) (c .before .before .before .before .before .before .before .before .before .before .pre .2) (c .before .before .loop .inv .3) in
-    (c .before .before .before .before .before .before .before .before .before .before .pre .0, omega (arith, c .before .loop-test .taken, c .before .before .before .before .before .before .before .before .before .before .pre .1), c .before .before .loop .inv .2, lent-room (c .before .before .loop .out) (c .before .before .loop .at) (g (c .before .before .loop .b)) (g (c .before .before .loop .b)) refl fits)
+    let g = blockPartAt (c .before .before .before .before .before .before .before .before .before .before .before .args .s .now) (c .before .before .before .before .before .before .before .before .before .before .before .args .places .now) (c .before .before .before .before .before .before .before .before .before .before .before .args .numbers .now) (c .before .before .before .before .before .before .before .before .before .before .before .args .slots .now) (c .before .before .before .before .before .before .before .before .before .before .before .args .values) (rows (c .before .before .before .before .before .before .before .before .before .before .before .args .lists .now)) in
+    let fits = turn-room g 0 (c .before .before .loop .b) (c .before .before .loop .inv .0) (c .before .before .before .before .before .before .before .before .before .before .before .args .blocks) (c .before .loop-test .taken) (c .before .before .before .before .before .before .before .before .before .before .before .pre .3) (c .before .before .loop .inv .2) in
+    (c .before .before .before .before .before .before .before .before .before .before .before .pre .0, c .before .before .before .before .before .before .before .before .before .before .before .pre .1, omega (arith, c .before .loop-test .taken, c .before .before .before .before .before .before .before .before .before .before .before .pre .2), lent-room (c .before .before .loop .out) (c .before .before .loop .at) (g (c .before .before .loop .b)) (g (c .before .before .loop .b)) refl fits)
 
 add-at : tie.Need-add-at Inv-loop μ-loop
 add-at c =
-    let g = blockPartAt (c .before .before .before .before .before .before .before .before .before .before .before .before .before .args .s .now) (c .before .before .before .before .before .before .before .before .before .before .before .before .before .args .places .now) (c .before .before .before .before .before .before .before .before .before .before .before .before .before .args .numbers .now) (c .before .before .before .before .before .before .before .before .before .before .before .before .before .args .slots .now) (c .before .before .before .before .before .before .before .before .before .before .before .before .before .args .values) (rows (c .before .before .before .before .before .before .before .before .before .before .before .before .before .args .lists .now)) in
-    omega (arith, turn-room g 0 (c .before .before .before .before .before .loop .b) (c .before .before .before .before .before .loop .inv .0) (c .before .before .before .before .before .before .before .before .before .before .before .before .before .args .blocks) (c .before .before .before .before .loop-test .taken) (c .before .before .before .before .before .before .before .before .before .before .before .before .before .pre .2) (c .before .before .before .before .before .loop .inv .3), c .before .before .put-laid .ensures .count)
-
-next-number-requires : tie.Need-next-number-requires Inv-loop μ-loop
-next-number-requires c κs = (c .before .before .before .before .before .before .before .before .before .before .before .before .before .pre .0 .tables .given, omega (arith, c .before .before .before .before .loop-test .taken, c .before .before .before .before .before .before .before .before .before .before .before .before .before .pre .1), c .before .before .before .before .before .loop .inv .2, tables-readable (c .before .before .before .before .before .before .before .before .before .before .before .before .before .pre .0) .inOrder)
+    let g = blockPartAt (c .before .before .before .before .before .before .before .before .before .before .before .before .before .before .args .s .now) (c .before .before .before .before .before .before .before .before .before .before .before .before .before .before .args .places .now) (c .before .before .before .before .before .before .before .before .before .before .before .before .before .before .args .numbers .now) (c .before .before .before .before .before .before .before .before .before .before .before .before .before .before .args .slots .now) (c .before .before .before .before .before .before .before .before .before .before .before .before .before .before .args .values) (rows (c .before .before .before .before .before .before .before .before .before .before .before .before .before .before .args .lists .now)) in
+    omega (arith, turn-room g 0 (c .before .before .before .before .before .loop .b) (c .before .before .before .before .before .loop .inv .0) (c .before .before .before .before .before .before .before .before .before .before .before .before .before .before .args .blocks) (c .before .before .before .before .loop-test .taken) (c .before .before .before .before .before .before .before .before .before .before .before .before .before .before .pre .3) (c .before .before .before .before .before .loop .inv .2), c .before .before .put-laid .ensures .count)
 
 add-b : tie.Need-add-b Inv-loop μ-loop
 add-b c = search needs
@@ -57,14 +52,14 @@ loop-less c = search needs
 loop-again : tie.Need-loop-again Inv-loop μ-loop
 loop-again c =
     let g = blockPartAt (c .before .before .before .before .before .before .before .before .before .before .before .before .before .before .args .s .now) (c .before .before .before .before .before .before .before .before .before .before .before .before .before .before .args .places .now) (c .before .before .before .before .before .before .before .before .before .before .before .before .before .before .args .numbers .now) (c .before .before .before .before .before .before .before .before .before .before .before .before .before .before .args .slots .now) (c .before .before .before .before .before .before .before .before .before .before .before .before .before .before .args .values) (rows (c .before .before .before .before .before .before .before .before .before .before .before .before .before .before .args .lists .now)) in
-    let fits = turn-room g 0 (c .before .before .before .before .before .before .loop .b) (c .before .before .before .before .before .before .loop .inv .0) (c .before .before .before .before .before .before .before .before .before .before .before .before .before .before .args .blocks) (c .before .before .before .before .before .loop-test .taken) (c .before .before .before .before .before .before .before .before .before .before .before .before .before .before .pre .2) (c .before .before .before .before .before .before .loop .inv .3) in
-    (search needs, search needs, c .next-number .ensures, wrote-turn g 0 (c .before .before .before .before .before .before .loop .b) (c .before .before .before .before .before .before .loop .inv .0) (g (c .before .before .before .before .before .before .loop .b)) refl (c .before .before .before .before .before .before .loop .inv .3) (omega arith) (c .before .before .before .put-laid .ensures))
+    let fits = turn-room g 0 (c .before .before .before .before .before .loop .b) (c .before .before .before .before .before .loop .inv .0) (c .before .before .before .before .before .before .before .before .before .before .before .before .before .before .args .blocks) (c .before .before .before .before .loop-test .taken) (c .before .before .before .before .before .before .before .before .before .before .before .before .before .before .pre .3) (c .before .before .before .before .before .loop .inv .2) in
+    (search needs, search needs, wrote-turn g 0 (c .before .before .before .before .before .loop .b) (c .before .before .before .before .before .loop .inv .0) (g (c .before .before .before .before .before .loop .b)) refl (c .before .before .before .before .before .loop .inv .2) (omega arith) (c .before .before .put-laid .ensures))
 
 same-length : tie.Need-same-length Inv-loop μ-loop
 same-length c = search needs
 
 returns : tie.Need-returns Inv-loop μ-loop
-returns c = let e : c .before .loop .b ≡ (c .before .before .before .before .before .before .before .before .before .args .blocks) = omega arith in rw e at (c .before .loop .inv .3)
+returns c = let e : c .before .loop .b ≡ (c .before .before .before .before .before .before .before .before .before .before .args .blocks) = omega arith in rw e at (c .before .loop .inv .2)
 
 pub put-blocks-spec : {M : Type 1} → statement M
 put-blocks-spec =
@@ -78,7 +73,6 @@ put-blocks-spec =
     part-put-laid-end
     put-laid-requires
     add-at
-    next-number-requires
     add-b
     loop-less
     loop-again

@@ -23,7 +23,7 @@ slice-aggregate-plan-records-4 : tie.Need-slice-aggregate-plan-records-4
 slice-aggregate-plan-records-4 c = search needs
 
 plan-records-requires : tie.Need-plan-records-requires
-plan-records-requires c κs = (plannable (c .before .before .before .before .before .before .before .before .before .before .before .before .pre .0), own-lent)
+plan-records-requires c κs = (plannable (c .before .before .before .before .before .before .before .before .before .before .before .before .before .pre .0), own-lent, c .before .before .before .before .before .before .before .before .before .before .before .before .before .pre .2)
 
 slice-aggregate-write-planned : tie.Need-slice-aggregate-write-planned
 slice-aggregate-write-planned c = search needs
@@ -39,9 +39,10 @@ slice-aggregate-write-planned-4 c = search needs
 
 write-planned-requires : tie.Need-write-planned-requires
 write-planned-requires c κs = (
-  plan-found (c .before .before .before .before .before .before .before .before .before .before .before .before .before .before .before .before .before .before .before .before .before .before .pre .0) (c .before .before .before .before .before .before .before .before .before .plan-records .ensures) (omega (arith, c .before .before .before .before .before .before .before .before .before .plan-records .kept .1 .1 .1 .1 .1 .1 .1 .1 .0, length-replicate {A = ℕ} largestRecords 0))
-      (c .before .before .before .before .before .before .before .before .before .plan-records .kept .1 .1 .1 .1 .1 .1 .1 .1 .1 .1 .0 ∙ length-replicate {A = ℕ} (2 * largestRecords) 0),
-  c .before .before .before .before .before .before .before .before .before .before .before .before .before .before .before .before .before .before .before .before .before .before .pre .1,
+  plan-found (c .before .before .before .before .before .before .before .before .before .before .before .before .before .before .before .before .before .before .before .before .before .before .before .pre .0) (c .before .before .before .before .before .before .before .before .before .plan-records .ensures) (omega (arith, c .before .before .before .before .before .before .before .before .before .plan-records .kept .1 .1 .1 .1 .1 .1 .1 .1 .1 .0, length-replicate {A = ℕ} largestRecords 0))
+      (c .before .before .before .before .before .before .before .before .before .plan-records .kept .1 .1 .1 .1 .1 .1 .1 .1 .1 .1 .1 .0 ∙ length-replicate {A = ℕ} (2 * largestRecords) 0),
+  c .before .before .before .before .before .before .before .before .before .before .before .before .before .before .before .before .before .before .before .before .before .before .before .pre .1,
+  c .before .before .before .before .before .before .before .before .before .before .before .before .before .before .before .before .before .before .before .before .before .before .before .pre .2,
 )
 
 same-length : tie.Need-same-length
@@ -49,7 +50,7 @@ same-length c = search needs
 
 returns : tie.Need-returns
 returns c =
-    let A = c .before .before .before .before .before .before .before .before .before .before .before .before .before .before .before .before .before .before .before .before .before .before .before .before .before .args in
+    let A = c .before .before .before .before .before .before .before .before .before .before .before .before .before .before .before .before .before .before .before .before .before .before .before .before .before .before .args in
     let own = c .before .before .before .before .before .before .before .before .before .before .before .before .plan-records .ensures .pointed in (
       c .before .before .write-planned .ensures .0 ∙ ap (λ (x : ℕ). rewritingAnswer (A.s .now) x (length (A.out .now))) own,
       c .before .before .write-planned .ensures .1 ∙ ap (λ (x : ℕ). rewritingOutput (A.s .now) x (length (A.out .now))) own,

@@ -1,4 +1,4 @@
--- `listing::blocks::count_instructions` meets its contract.
+-- `listing::firsts::count_instructions` meets its contract.
 use Prim.Native.Nat.{_≤_, _-_}
 use mathlib.Core.Path.{_≡_, sym, _∙_, ap}
 use lib.Dec.{eqb}
@@ -8,8 +8,8 @@ use borrow.Author.Tests.{eq-eqb, ne-eqb}
 use Rattle.rules.specs.Records.{kind, recordAt}
 use Rattle.listing.specs.Stepping.{headsFrom}
 use Rattle.listing.proofs.Counting.{heads-none, heads-one, heads-other, heads-few}
-use Rattle.listing.proofs.blocks.count_instructions.Statement.{statement}
-use Rattle.listing.proofs.blocks.count_instructions.Tie as tie
+use Rattle.listing.proofs.firsts.count_instructions.Statement.{statement}
+use Rattle.listing.proofs.firsts.count_instructions.Tie as tie
 
 abbrev Inv-loop : tie.InvT-loop
 Inv-loop s start end count₀ p₀ count p = (start ≤ p) × (p ≤ end) × (count ≡ length (headsFrom s p end))
