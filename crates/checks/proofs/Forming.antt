@@ -94,21 +94,18 @@ module _ (s : List ℕ) where
 
 -- WORDS AT A PLACE are those of its record where they are of the table,
 module _ (s : List ℕ) (i : ℕ) (w : Words) (e : w ≡ fourWords s i) where
-  abbrev tested : Words → Bool
-  tested x = inTable (x .kind) (x .second) (x .third) (x .fourth)
+  pub words-stand : inTable w ≡ true → encode (recordAt s i) ≡ w
+  words-stand h = words-there s i (subst T (sym (ap inTable (sym e) ∙ h)) tt) ∙ sym e
 
-  pub words-stand : tested w ≡ true → encode (recordAt s i) ≡ w
-  words-stand h = words-there s i (subst T (sym (ap tested (sym e) ∙ h)) tt) ∙ sym e
-
-  pub kind-stands : tested w ≡ true → w .kind < 16
+  pub kind-stands : inTable w ≡ true → w .kind < 16
   kind-stands h =
       let l = ltb→lt (kind (recordAt s i)) 16 (kind-small (recordAt s i)) in
       let k : kind (recordAt s i) ≡ w .kind = ap (λ (x : Words). x .kind) (words-stand h) in
       omega arith
 
   -- and else nothing may stand there.
-  pub outside-follows : tested w ≡ false → (p : ℕ) → p < 16 → follows p (kind (recordAt s i)) ≡ false
+  pub outside-follows : inTable w ≡ false → (p : ℕ) → p < 16 → follows p (kind (recordAt s i)) ≡ false
   unfolding follows followers
   outside-follows h p l =
-      ap (follows p) (kind-outside s i (ap tested (sym e) ∙ h))
+      ap (follows p) (kind-outside s i (ap inTable (sym e) ∙ h))
       ∙ is-false (follows p 0) (all-below (λ q. not (follows q 0)) 16 tt p l)

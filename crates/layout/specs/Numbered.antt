@@ -72,7 +72,7 @@ module _ (s : List ℕ) (q : ℕ) (m : q ≤ recordCount s) where
       go false = omega arith
 
   -- as many more as start between
-  pub number-behind-run : (p : ℕ) → p ≤ q → numberAt s q ≡ numberAt s p + length (headsFrom s p q)
+  number-behind-run : (p : ℕ) → p ≤ q → numberAt s q ≡ numberAt s p + length (headsFrom s p q)
   number-behind-run p l = count-more (q - p) p (omega arith)
 
 -- BLOCK BY BLOCK

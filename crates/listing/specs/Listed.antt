@@ -1,6 +1,6 @@
 -- THE LISTS AS SETS. Document 01's lists are what is live across each safepoint, put in order; so a row that has a list's
 -- set has its list, and the values on any list are those of any row.
-use Prim.Native.Nat.{ℕ, zero, suc, _+_, _<_, _≤_}
+use Prim.Native.Nat.{ℕ, zero, suc, _<_, _≤_}
 use mathlib.Core.Path.{_≡_, refl, sym, ap, ap₂, subst, _∙_}
 use mathlib.Core.Bool.{Bool, true, false, _||_, cond}
 use mathlib.Core.Option.{Option, none, some}

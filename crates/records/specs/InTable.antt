@@ -23,8 +23,8 @@ abbrev pub InTable : Record → Type 0
 InTable r = T (leb 1 (kind r))
 
 -- whether four words are one
-unfoldable pub inTable : ℕ → ℕ → ℕ → ℕ → Bool
-inTable k a b c = leb 1 (kind (decode k a b c))
+unfoldable pub inTable : Words → Bool
+inTable w = leb 1 (kind (decode (w .kind) (w .second) (w .third) (w .fourth)))
 
 -- the four words at the place of record i, whatever they are
 abbrev pub fourWords : List ℕ → ℕ → Words
@@ -154,15 +154,12 @@ decode-readAs k a b c =
 
 -- THE PLACE. Words of the table are those of the record at their place,
 module _ (s : List ℕ) (i : ℕ) where
-  abbrev there : Bool
-  there = inTable (fourWords s i .kind) (fourWords s i .second) (fourWords s i .third) (fourWords s i .fourth)
-
-  pub words-there : T there → encode (recordAt s i) ≡ fourWords s i
+  pub words-there : T (inTable (fourWords s i)) → encode (recordAt s i) ≡ fourWords s i
   unfolding recordAt inTable
   words-there = decode-words (fourWords s i .kind) (fourWords s i .second) (fourWords s i .third) (fourWords s i .fourth)
 
   -- and others are the words of no record.
-  pub kind-outside : there ≡ false → kind (recordAt s i) ≡ 0
+  pub kind-outside : inTable (fourWords s i) ≡ false → kind (recordAt s i) ≡ 0
   unfolding recordAt inTable
   kind-outside h = let l = nleb→lt 1 (kind (recordAt s i)) (subst (λ b. T (not b)) (sym h) tt) in omega arith
 
@@ -186,8 +183,8 @@ module _ (s : List ℕ) (h : T (ordered 0 (records s))) (i : ℕ) (l : i < recor
 
   -- the four words of record i stand in the file
   pub words-at : encode (recordAt s i) ≡ fourWords s i
-  unfolding recordAt
-  words-at = decode-words (fourWords s i .kind) (fourWords s i .second) (fourWords s i .third) (fourWords s i .fourth) in-table-at
+  unfolding recordAt inTable
+  words-at = words-there s i in-table-at
 
   -- and the record is read off them without a test
   pub record-at : recordAt s i ≡ readAs (fourWords s i .kind) (fourWords s i .second) (fourWords s i .third) (fourWords s i .fourth)

@@ -4,7 +4,7 @@ ghost use mathlib.Core.Bool.{_&&_};
 ghost use Prim.Native.Nat.{_<_};
 ghost use lib.Dec.{eqb, leb};
 ghost use Rattle.rules.specs.Lists.{has};
-ghost use Rattle.rules.specs.Records.{slotSizes, log2};
+ghost use Rattle.rules.specs.Records.{slotSizes, log2, words};
 ghost use Rattle.records.specs.InTable.{inTable};
 use rules::Words;
 
@@ -39,7 +39,7 @@ fn fits_slot(a: u32, b: u32) -> bool
 // word 3 unused.
 fn fits_input(k: u32, a: u32, b: u32) -> bool
     requires { ⌜ k < 10 ⌝ }
-    ensures { λ r. ⌜ r ≡ inTable k a b 0 ⌝ }
+    ensures { λ r. ⌜ r ≡ inTable (words k a b 0) ⌝ }
 {
     match k {
         0 => false,
@@ -64,7 +64,7 @@ fn zero_and(c: u32, fits: bool) -> bool
 // Whether the words of another kind are as the table has them.
 fn fits_output(k: u32, a: u32, b: u32, c: u32) -> bool
     requires { ⌜ 9 < k ⌝ }
-    ensures { λ r. ⌜ r ≡ inTable k a b c ⌝ }
+    ensures { λ r. ⌜ r ≡ inTable (words k a b c) ⌝ }
 {
     match k {
         10 => zero_and(c, fits_slot(a, b)),
@@ -79,7 +79,7 @@ fn fits_output(k: u32, a: u32, b: u32, c: u32) -> bool
 
 // Whether four words are a record of the table.
 pub fn is_in_table(w: Words) -> bool
-    ensures { λ r. ⌜ r ≡ inTable (w .kind) (w .second) (w .third) (w .fourth) ⌝ }
+    ensures { λ r. ⌜ r ≡ inTable w ⌝ }
 {
     if w.kind < 10 {
         return zero_and(w.fourth, fits_input(w.kind, w.second, w.third));

@@ -3,7 +3,7 @@ use borrow.Author.Tests.{ne-eqb}
 use borrow.Author.Needs.{needs}
 use lib.Dec.{eqb}
 use mathlib.Core.Bool.{false}
-use mathlib.Core.Path.{_≡_, sym}
+use mathlib.Core.Path.{_≡_}
 use native.Mathlib.Omega.{arith}
 use Rattle.checks.proofs.order.numbered_as.Statement.{statement}
 use Rattle.checks.proofs.order.numbered_as.Tie as tie

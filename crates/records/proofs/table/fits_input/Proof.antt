@@ -2,7 +2,7 @@
 use Rattle.rules.specs.Records.{isSafepoint, isTerminator, edgeArgument, decode}
 use Rattle.rules.specs.declared.Record.the-variants as record′
 use Rattle.records.specs.InTable.{inTable}
-use Rattle.records.proofs.Rows.{behind, argument-in-table, third-unused}
+use Rattle.records.proofs.TableRows.{behind, argument-in-table, third-unused}
 use lib.Dec.{leb, eqb}
 use mathlib.Core.Bool.{_&&_}
 use mathlib.Core.Path.{_≡_, sym, _∙_}

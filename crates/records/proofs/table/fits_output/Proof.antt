@@ -3,9 +3,9 @@ use Rattle.rules.specs.Lists.{has}
 use Rattle.rules.specs.Records.{slotSizes, log2, decode}
 use Rattle.rules.specs.declared.Record.the-variants as record′
 use Rattle.records.specs.InTable.{inTable}
-use Rattle.records.proofs.Rows.{behind, behind-too, behind-both}
-use lib.Dec.{leb, eqb}
-use mathlib.Core.Bool.{_&&_, true}
+use Rattle.records.proofs.TableRows.{behind, behind-too, behind-both}
+use lib.Dec.{eqb}
+use mathlib.Core.Bool.{_&&_}
 use mathlib.Core.Path.{_≡_, sym, ap, _∙_}
 use native.Mathlib.Omega.{arith}
 use borrow.Author.Tests.{ne-eqb}

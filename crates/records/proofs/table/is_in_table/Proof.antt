@@ -1,5 +1,5 @@
 -- `records::table::is_in_table` meets its contract.
-use Rattle.records.proofs.Rows.{fourth-unused}
+use Rattle.records.proofs.TableRows.{fourth-unused}
 use lib.Dec.{eqb}
 use mathlib.Core.Bool.{_&&_}
 use mathlib.Core.Path.{sym, ap, _∙_}

@@ -32,7 +32,7 @@ cast-t27 : tie.Need-cast-t27
 cast-t27 c = search needs
 
 cast-t28 : tie.Need-cast-t28
-cast-t28 c = omega (arith, c .before .before .before .before .before .before .before .before .before .before .before .before .before .before .before .before .before .before .before .before .pre .0 .slots-few)
+cast-t28 c = omega (arith, c .before .before .before .before .before .before .before .before .before .before .before .before .before .before .before .before .before .before .before .before .pre .0 .slots-few, c .before .before .before .before .before .before .before .before .before .before .before .before .before .before .before .before .before .before .before .before .pre .0 .made-few)
 
 sub-t18 : tie.Need-sub-t18
 sub-t18 c = landings-there (c .before .before .before .before .before .before .before .before .before .before .before .before .before .before .before .before .before .before .before .before .before .pre .0)

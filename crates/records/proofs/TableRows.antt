@@ -5,7 +5,7 @@ use mathlib.Core.Path.{_≡_, refl, _∙_}
 use mathlib.Core.Logic.{_≢_}
 use mathlib.Core.Bool.{Bool, true, false, not, _&&_, cond}
 use lib.Dec.{T, leb, eqb, eqb→eq}
-use Rattle.rules.specs.Records.{edgeArgument, kind, decode}
+use Rattle.rules.specs.Records.{words, edgeArgument, kind, decode}
 use Rattle.rules.specs.declared.Record.{Record}
 use Rattle.rules.specs.declared.Record.the-variants as record′
 use Rattle.lists.specs.Tests.{test-elim, is-true, is-false}
@@ -37,7 +37,7 @@ argument-in-table a b = kind-edgeArgument (leb 1) (edgeArgument a b) tt
 
 module _ (a b : ℕ) where
   -- THE INPUT'S KINDS leave word 4 unused.
-  fourth-used : (k c : ℕ) → k < 10 → eqb c 0 ≡ false → inTable k a b c ≡ false
+  fourth-used : (k c : ℕ) → k < 10 → eqb c 0 ≡ false → inTable (words k a b c) ≡ false
   unfolding decode inTable
   fourth-used zero c l h = refl
   fourth-used (suc zero) c l h = rw h refl
@@ -51,17 +51,17 @@ module _ (a b : ℕ) where
   fourth-used (suc (suc (suc (suc (suc (suc (suc (suc (suc zero))))))))) c l h = rw h (behind-none (eqb b 0) (record′.Context a))
   fourth-used (suc (suc (suc (suc (suc (suc (suc (suc (suc (suc k)))))))))) c l h = absurd (omega arith)
 
-  pub fourth-unused : (k c : ℕ) → k < 10 → inTable k a b c ≡ (eqb c 0 && inTable k a b 0)
+  pub fourth-unused : (k c : ℕ) → k < 10 → inTable (words k a b c) ≡ (eqb c 0 && inTable (words k a b 0))
   fourth-unused k c l = test-elim (eqb c 0) unused used
     where
-      unused : T (eqb c 0) → inTable k a b c ≡ (eqb c 0 && inTable k a b 0)
+      unused : T (eqb c 0) → inTable (words k a b c) ≡ (eqb c 0 && inTable (words k a b 0))
       unused h = let z : c ≡ 0 = eqb→eq c 0 h in rw z refl
 
-      used : T (not (eqb c 0)) → inTable k a b c ≡ (eqb c 0 && inTable k a b 0)
+      used : T (not (eqb c 0)) → inTable (words k a b c) ≡ (eqb c 0 && inTable (words k a b 0))
       used h = let n : eqb c 0 ≡ false = is-false (eqb c 0) h in fourth-used k c l n ∙ rw n refl
 
   -- All but four leave word 3 unused too.
-  pub third-unused : (k : ℕ) → k < 10 → k ≢ 0 → k ≢ 1 → k ≢ 2 → k ≢ 4 → k ≢ 8 → inTable k a b 0 ≡ eqb b 0
+  pub third-unused : (k : ℕ) → k < 10 → k ≢ 0 → k ≢ 1 → k ≢ 2 → k ≢ 4 → k ≢ 8 → inTable (words k a b 0) ≡ eqb b 0
   unfolding decode inTable
   third-unused zero l n₀ n₁ n₂ n₄ n₈ = absurd (n₀ refl)
   third-unused (suc zero) l n₀ n₁ n₂ n₄ n₈ = absurd (n₁ refl)
