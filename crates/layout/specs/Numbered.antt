@@ -3,18 +3,16 @@ use Prim.Native.Nat.{ℕ, zero, suc, _+_, _-_, _<_, _≤_}
 use mathlib.Core.Path.{_≡_, refl, sym, ap, subst, _∙_}
 use mathlib.Core.Bool.{Bool, true, false, not, _&&_}
 use mathlib.Core.Option.{Option, none, some}
-use mathlib.Core.List.{List, [], _∷_, _++_, map}
+use mathlib.Core.List.{List, [], _∷_, _++_}
 use native.Mathlib.Omega.{arith}
 use native.Mathlib.Numerals.{add-one}
-use lib.ListN.{length, getD, length-append, length-map, List·getD-append}
-use lib.Seq.{getD-append-add}
+use lib.ListN.{length, getD, length-append, length-map}
 use lib.Dec.{T, eqb, eqb→eq}
-use Rattle.rules.specs.Lists.{all, keep, isNone, orElse, concatMap, has, upFrom, NumberSet, nothing, members}
-use Rattle.rules.specs.Tree.{Instruction, Function}
+use Rattle.rules.specs.Lists.{all, keep, isNone, orElse, concatMap, has, upFrom, nothing, members}
+use Rattle.rules.specs.Tree.{Function}
 use Rattle.rules.specs.Records.{kind, recordAt, recordCount, records}
 use Rattle.rules.specs.File.{ordered, cut, instructionOf, functionIn}
-use Rattle.rules.specs.Graph.{blockAt, instructionsOf, reachable}
-use Rattle.rules.specs.Liveness.{process, listsAmong, listsOf, lists}
+use Rattle.rules.specs.Liveness.{listsOf, lists}
 use Rattle.rules.specs.declared.Record.{Record}
 use Rattle.lists.specs.Maps.{concatMap-append}
 use Rattle.records.specs.Kinds.{Kinds, kinds-weaken}
@@ -23,6 +21,7 @@ use Rattle.graph.specs.Between.{between, between-none}
 use Rattle.graph.specs.Sections.{placeIf, places, sectionsAt, length-sectionsAt}
 use Rattle.graph.specs.Blocks.{placeOf, place-le, place-less, block-head, front-by-place, instructions-by-place}
 use Rattle.listing.specs.Crossings.{listed, upFrom-more}
+use Rattle.listing.specs.ByBlock.{listsBelow, length-listsOf}
 use Rattle.listing.specs.Listed.{list-members, listed-none}
 use Rattle.listing.specs.Stepping.{headsFrom, heads-more}
 use Rattle.layout.specs.BlockRuns.{numberAt, number-same}
@@ -76,25 +75,6 @@ module _ (s : List ℕ) (q : ℕ) (m : q ≤ recordCount s) where
   number-behind-run p l = count-more (q - p) p (omega arith)
 
 -- BLOCK BY BLOCK
-length-among : (f : Function) (is : List Instruction) (out : NumberSet) → length (listsAmong f is out) ≡ length is
-length-among f [] out = refl
-length-among f (i ∷ is) out = ap suc (length-among f is out)
-
-length-listsOf : (f : Function) (b : ℕ) → length (listsOf f b) ≡ length (instructionsOf (blockAt f b))
-unfolding listsOf
-length-listsOf f b = go (has b (reachable f))
-  where
-    is : List Instruction
-    is = instructionsOf (blockAt f b)
-
-    go : (r : Bool) → length {A = Option (List ℕ)} (elim r [ true ↦ listsAmong f is (process f .outs b) | false ↦ map (λ _. none) is ]) ≡ length is
-    go true = length-among f is (process f .outs b)
-    go false = length-map is (λ _. none)
-
--- the lists of the blocks below n
-abbrev pub listsBelow : Function → ℕ → List (Option (List ℕ))
-listsBelow f n = concatMap (listsOf f) (upFrom 0 n)
-
 length-below-more : (f : Function) (b : ℕ) → length (listsBelow f (suc b)) ≡ length (listsBelow f b) + length (listsOf f b)
 length-below-more f b =
     let same : 0 + b ≡ b = omega arith in
@@ -109,26 +89,6 @@ length-below-more f b =
 below-le : (f : Function) (k b n : ℕ) → b + k ≡ n → length (listsBelow f b) ≤ length (listsBelow f n)
 below-le f zero b n e = let same : n ≡ b = omega arith in rw same (omega arith)
 below-le f (suc k) b n e = omega (arith, below-le f k (suc b) n (omega arith), length-below-more f b)
-
--- member k of the list that number a + j gives, among the lists of n numbers from a on
-list-within :
-    {A : Type 0} (g : ℕ → List A) (d : A) (k j a n : ℕ) → j < n → k < length (g (a + j))
-    → getD (concatMap g (upFrom a n)) (length (concatMap g (upFrom a j)) + k) d ≡ getD (g (a + j)) k d
-list-within g d k j a zero l m = absurd (omega arith)
-list-within g d k zero a (suc n) l m =
-    let same : a + 0 ≡ a = omega arith in
-    let first : 0 + k ≡ k = omega arith in
-    ap (λ (i : ℕ). getD (g a ++ concatMap g (upFrom (suc a) n)) i d) first
-    ∙ List·getD-append (g a) (concatMap g (upFrom (suc a) n)) d k (subst (λ (x : ℕ). k < length (g x)) same m)
-    ∙ ap (λ (x : ℕ). getD (g x) k d) (sym same)
-list-within g d k (suc j) a (suc n) l m =
-    let next : a + suc j ≡ suc a + j = omega arith in
-    let rest = concatMap g (upFrom (suc a) j) in
-    let at : length (g a ++ rest) + k ≡ length (g a) + (length rest + k) = omega (arith, length-append (g a) rest) in
-    ap (λ (i : ℕ). getD (g a ++ concatMap g (upFrom (suc a) n)) i d) at
-    ∙ getD-append-add (g a) (concatMap g (upFrom (suc a) n)) (length rest + k) d
-    ∙ list-within g d k j (suc a) n (omega arith) (subst (λ (x : ℕ). k < length (g x)) next m)
-    ∙ ap (λ (x : ℕ). getD (g x) k d) (sym next)
 
 -- no place of another kind
 no-places : (p : ℕ) (rs : List Record) → Kinds (λ j. not (eqb 4 j)) rs → places (eqb 4) p rs ≡ []
@@ -181,15 +141,6 @@ module _ (s : List ℕ) (h : T (ordered 0 (records s))) where
       number-first b l =
           ap (numberAt s) (sym (add-one (placeOf s b)))
           ∙ number-same s (placeOf s b) (λ e. let two = block-head s b l in absurd (omega (arith, e, two)))
-
-  -- THE LIST of instruction k of a block is that of its number.
-  pub list-in-block :
-      (b : ℕ) → b < length (f .blocks) → (k : ℕ) → k < length (listsOf f b)
-      → getD (listsOf f b) k none ≡ getD (lists f) (length (listsBelow f b) + k) none
-  list-in-block b l k m =
-      let same : 0 + b ≡ b = omega arith in
-      sym (list-within (listsOf f) none k b 0 (length (f .blocks)) l (subst (λ (x : ℕ). k < length (listsOf f x)) (sym same) m)
-      ∙ ap (λ (x : ℕ). getD (listsOf f x) k none) same)
 
   -- the number behind a block is no higher than the count of instructions
   pub number-fits : (b : ℕ) → b < length (f .blocks) → numberAt s (placeOf s (suc b)) ≤ length (lists f)

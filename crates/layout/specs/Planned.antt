@@ -21,6 +21,7 @@ use Rattle.lists.specs.Maps.{concatMap-append}
 use Rattle.graph.specs.Sections.{firstOr, sectionsAt, length-sectionsAt}
 use Rattle.graph.specs.Blocks.{placeOf, sectionOf, place-le, place-less, blockAt-by-place, instructions-by-place, block-head}
 use Rattle.numbering.specs.Beside.{instructionPlanAt, instructionPlansAt, blockPlanAt}
+use Rattle.listing.specs.ByBlock.{listsBelow, list-in-block}
 use Rattle.listing.specs.Crossings.{listed}
 use Rattle.listing.specs.Stepping.{headsFrom}
 use Rattle.writing_edges.specs.declared.edges.EdgePart.the-variants as edge
@@ -36,7 +37,7 @@ use Rattle.writing_instructions.specs.Instruction.{instructionAt, instruction-b
 use Rattle.writing_instructions.specs.Remade.{block-remade}
 use Rattle.writing_instructions.specs.Runs.{partsRun, edgesRun, instructionRun}
 use Rattle.layout.specs.BlockRuns.{numberAt, landingPartAt, instructionIf, instructionPartAt, blockRun, number-same}
-use Rattle.layout.specs.Numbered.{Numbered, numbered-from, listsBelow, length-block-heads, number-place, list-in-block, list-row}
+use Rattle.layout.specs.Numbered.{Numbered, numbered-from, length-block-heads, number-place, list-row}
 
 -- what agrees at a record of a kind
 kind-same :
@@ -178,7 +179,7 @@ module _ (s numbers slots : List ℕ) where
       ∙ number-place s h b (omega arith) in
       let items =
       instructions-run (suc p) q less inside ls long
-      (λ k m. list-in-block s h b l k m ∙ ap (λ (j : ℕ). getD (lists f) (j + k) none) (sym first)) in
+      (λ k m. list-in-block f b l k m ∙ ap (λ (j : ℕ). getD (lists f) (j + k) none) (sym first)) in
       let stores : List Item = concatZip (storeItems size slot) (blockOf (sectionOf s b) .parameters) (n .parameters) in
       let is : List Item = concatZip (instructionItems size slot) (zipWith (λ i l. (i, l)) (parts q (headsFrom s (suc p) q)) ls) (n .instructions) in
       ap₂ (λ (x : Block) (is : List Instruction). concatMap blockRecords (rewrittenBlock size slot x (zipWith (λ i l. (i, l)) is ls) n))

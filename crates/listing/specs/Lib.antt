@@ -3,6 +3,7 @@ pub mod Across
 pub mod Parted
 pub mod Stepping
 pub mod Listed
+pub mod ByBlock
 pub mod Tables
 pub mod Firsts
 pub mod Ascending

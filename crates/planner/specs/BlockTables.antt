@@ -1,27 +1,27 @@
 -- WHAT PLANNING A BLOCK READS, from the tables of an accepted file: the table of its blocks' places, live-out and the lists of
 -- all safepoints as rows.
-use Prim.Native.Nat.{ℕ, zero, suc, _+_, _-_, _*_, _<_, _≤_}
-use mathlib.Core.Path.{_≡_, refl, sym, ap, ap₂, _∙_}
-use mathlib.Core.Bool.{Bool, true, false}
+use Prim.Native.Nat.{ℕ, suc, _+_, _-_, _*_, _<_, _≤_}
+use mathlib.Core.Path.{_≡_, sym, ap, ap₂, _∙_}
+use mathlib.Core.Bool.{true, false}
 use mathlib.Core.Option.{Option, none}
-use mathlib.Core.List.{List, [], _∷_, _++_, map}
+use mathlib.Core.List.{List, map}
 use native.Mathlib.Omega.{arith}
 use native.Mathlib.Numerals.{add-one}
 use lib.ListN.{length, getD, length-map}
 use lib.Dec.{T}
 use Rattle.rules.specs.Limits.{rowWords}
-use Rattle.rules.specs.Lists.{concatMap, has, upFrom, zipWith, NumberSet}
+use Rattle.rules.specs.Lists.{has, upFrom, zipWith, NumberSet}
 use Rattle.rules.specs.Tree.{Instruction, Function}
 use Rattle.rules.specs.File.{instructionOf, functionIn}
 use Rattle.rules.specs.Graph.{blockAt, instructionsOf, reachable}
 use Rattle.rules.specs.Liveness.{process, listsAmong, listsOf, lists, isSpilled}
 use Rattle.rules.specs.Refusals.{sound}
-use Rattle.lists.specs.Maps.{concatMap-append}
 use Rattle.graph.specs.Blocks.{placeOf}
 use Rattle.graph.specs.ByTable.{place-at}
 use Rattle.graph.specs.Sections.{sectionsAt, length-sectionsAt}
 use Rattle.graph.specs.Tables.{Given, indexTable}
-use Rattle.listing.specs.Crossings.{crossingsBelow, listed}
+use Rattle.listing.specs.ByBlock.{length-listsOf, list-in-block}
+use Rattle.listing.specs.Crossings.{listed}
 use Rattle.listing.specs.Firsts.{Firsts, first-behind}
 use Rattle.listing.specs.Listed.{length-of-blocks}
 use Rattle.listing.specs.Stepping.{headsFrom, instructionsFrom}
@@ -42,65 +42,11 @@ pub record PlanTables (s places table outs : List ℕ) : Type 0 where
   pub rowsAre : rows table ≡ listed (functionIn s)
   pub listsRoom : rowWords * length (lists (functionIn s)) ≤ length table
 
-module _ {A : Type 0} where
-  getD-behind : (xs ys : List A) (j : ℕ) (e : A) → getD (xs ++ ys) (length xs + j) e ≡ getD ys j e
-  getD-behind [] ys j e = let same : 0 + j ≡ j = omega arith in ap (λ (n : ℕ). getD ys n e) same
-  getD-behind (x ∷ xs) ys j e = let next : suc (length xs) + j ≡ suc (length xs + j) = omega arith in ap (λ (n : ℕ). getD (x ∷ (xs ++ ys)) n e) next ∙ getD-behind xs ys j e
-
-  getD-front : (xs ys : List A) (j : ℕ) (e : A) → j < length xs → getD (xs ++ ys) j e ≡ getD xs j e
-  getD-front [] ys j e l = absurd (omega arith)
-  getD-front (x ∷ xs) ys zero e l = refl
-  getD-front (x ∷ xs) ys (suc j) e l = getD-front xs ys j e (omega arith)
-
-upFrom-split : (a n m : ℕ) → upFrom a (n + suc m) ≡ upFrom a n ++ ((a + n) ∷ upFrom (suc (a + n)) m)
-upFrom-split a zero m =
-    let none′ : 0 + suc m ≡ suc m = omega arith in
-    let same : a + 0 ≡ a = omega arith in
-    rw (none′, same) refl
-upFrom-split a (suc n) m =
-    let more : suc n + suc m ≡ suc (n + suc m) = omega arith in
-    let next : a + suc n ≡ suc a + n = omega arith in
-    rw (more, next) (ap (λ (xs : List ℕ). a ∷ xs) (upFrom-split (suc a) n m))
-
-module _ (f : Function) where
-  length-listsAmong : (is : List Instruction) (out : NumberSet) → length (listsAmong f is out) ≡ length is
-  length-listsAmong [] out = refl
-  length-listsAmong (i ∷ is) out = ap suc (length-listsAmong is out)
-
-  length-listsOf : (b : ℕ) → length (listsOf f b) ≡ length (instructionsOf (blockAt f b))
-  unfolding listsOf
-  length-listsOf b = go (has b (reachable f))
-    where
-      is : List Instruction
-      is = instructionsOf (blockAt f b)
-
-      go : (r : Bool) → length {A = Option (List ℕ)} (elim r [ true ↦ listsAmong f is (process f .outs b) | false ↦ map (λ _. none) is ]) ≡ length is
-      go true = length-listsAmong is (process f .outs b)
-      go false = length-map is (λ _. none)
-
-  listsOf-reachable : (b : ℕ) → has b (reachable f) ≡ true → listsOf f b ≡ listsAmong f (instructionsOf (blockAt f b)) (process f .outs b)
-  unfolding listsOf
-  listsOf-reachable b e =
-      ap {B = List (Option (List ℕ))} (λ r. elim r [ true ↦ listsAmong f (instructionsOf (blockAt f b)) (process f .outs b) | false ↦ map (λ _. none) (instructionsOf (blockAt f b)) ]) e
-
-  -- the lists of a block, among those of the file
-  list-in-block :
-      (b j : ℕ) → b < length (f .blocks) → j < length (instructionsOf (blockAt f b))
-      → getD (listsOf f b) j none ≡ getD (lists f) (length (crossingsBelow f b) + j) none
-  list-in-block b j l m =
-      let n = length (f .blocks) in
-      let all : n ≡ b + suc (n - suc b) = omega arith in
-      let same : 0 + b ≡ b = omega arith in
-      let rest = concatMap (listsOf f) (upFrom (suc (0 + b)) (n - suc b)) in
-      let split : lists f ≡ concatMap (listsOf f) (upFrom 0 b) ++ (listsOf f b ++ rest) =
-      ap (λ (k : ℕ). concatMap (listsOf f) (upFrom 0 k)) all
-      ∙ ap (concatMap (listsOf f)) (upFrom-split 0 b (n - suc b))
-      ∙ concatMap-append (listsOf f) (upFrom 0 b) ((0 + b) ∷ upFrom (suc (0 + b)) (n - suc b))
-      ∙ ap (λ (k : ℕ). concatMap (listsOf f) (upFrom 0 b) ++ (listsOf f k ++ rest)) same in
-      sym
-      (ap₂ (λ (ls : List (Option (List ℕ))) (k : ℕ). getD ls (k + j) none) split (sym (length-of-blocks f (upFrom 0 b)))
-      ∙ getD-behind (concatMap (listsOf f) (upFrom 0 b)) (listsOf f b ++ rest) j none
-      ∙ getD-front (listsOf f b) rest j none (omega (arith, length-listsOf b)))
+-- a reachable block's lists are those of its instructions
+listsOf-reachable : (f : Function) (b : ℕ) → has b (reachable f) ≡ true → listsOf f b ≡ listsAmong f (instructionsOf (blockAt f b)) (process f .outs b)
+unfolding listsOf
+listsOf-reachable f b e =
+    ap {B = List (Option (List ℕ))} (λ r. elim r [ true ↦ listsAmong f (instructionsOf (blockAt f b)) (process f .outs b) | false ↦ map (λ _. none) (instructionsOf (blockAt f b)) ]) e
 
 module _ (s places table outs firsts : List ℕ) (t : PlanTables s places table outs) (numbered : Firsts s firsts) (b : ℕ) (l : b < length (functionIn s .blocks)) where
   abbrev f′ : Function
@@ -151,7 +97,7 @@ module _ (s places table outs firsts : List ℕ) (t : PlanTables s places table 
             ∙ row-lists s table (t .rowsAre) end (process f′ .outs b) heads first
             (λ j m.
             ap (λ (ls : List (Option (List ℕ))). getD ls j none) own
-            ∙ list-in-block f′ b j l (omega (arith, long))
-            ∙ ap (λ (k : ℕ). getD (lists f′) (k + j) none) (sym counts))
+            ∙ list-in-block f′ b l j (omega (arith, long, length-listsOf f′ b))
+            ∙ ap (λ (k : ℕ). getD (lists f′) (k + j) none) (length-of-blocks f′ (upFrom 0 b) ∙ sym counts))
             ∙ ap₂ (λ (xs : List Instruction) (ls : List (Option (List ℕ))). zipWith (λ i l. (i, l)) xs ls) is own;
       }

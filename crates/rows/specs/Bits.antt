@@ -69,7 +69,7 @@ bit-zero zero = refl
 bit-zero (suc i) = bit-zero i
 
 -- and a power of two has one
-pub bit-power : (i k : ℕ) → bitAt (2 ^ k) i ≡ eqb i k
+bit-power : (i k : ℕ) → bitAt (2 ^ k) i ≡ eqb i k
 unfolding bitAt
 bit-power zero zero = refl
 bit-power (suc i) zero = bit-zero i ∙ sym (eqb·suc-zero i)

@@ -16,12 +16,19 @@ pub const WORD_BITS: usize = 64;
 
 const ROW_VALUES: usize = WORD_BITS * ROW_WORDS;
 
+// Whether the bit of a value is set in a word.
+pub fn has_bit(word: u64, v: usize) -> bool
+    ensures { λ r. ⌜ r ≡ bitAt word (v % 64) ⌝ }
+{
+    word >> (v % WORD_BITS) & 1 == 1
+}
+
 // Whether a row has a value.
 pub fn contains(t: &[u64], row: usize, v: usize) -> bool
     requires { ⌜ HasRow (now t) row × (v < rowValues) ⌝ }
     ensures { λ r. ⌜ r ≡ rows (now (t .entry)) row v ⌝ }
 {
-    t[ROW_WORDS * row + v / WORD_BITS] >> (v % WORD_BITS) & 1 == 1
+    has_bit(t[ROW_WORDS * row + v / WORD_BITS], v)
 }
 
 // The word in which only the bit of a value is set.

@@ -5,14 +5,13 @@
 ghost use mathlib.Core.Path.{_≡_};
 ghost use mathlib.Core.Bool.{false};
 ghost use mathlib.Core.List.{[], _∷_};
-ghost use Prim.Native.Nat.{_%_, _<_};
+ghost use Prim.Native.Nat.{_<_};
 ghost use Rattle.rules.specs.Limits.{largestBlocks};
 ghost use Rattle.rules.specs.Lists.{empty};
 ghost use Rattle.fixpoint.specs.Removal.{moveToTop};
-ghost use Rattle.rows.specs.Bits.{bitAt};
 ghost use Rattle.worklist.specs.Entries.{entries, Kept};
-use rows::WORD_BITS;
 use rows::bit_of;
+use rows::has_bit;
 use rules::LARGEST_BLOCKS;
 
 // The blocks, the lowest entry first, how many of the places are entries, and the marks: bit b is set where block b is an entry.
@@ -27,13 +26,6 @@ pub struct Worklist {
 pub struct Popped {
     pub block: usize,
     pub rest: Worklist,
-}
-
-// Whether the mark of a block is set.
-fn is_marked(pending: u64, block: usize) -> bool
-    ensures { λ r. ⌜ r ≡ bitAt pending (block % 64) ⌝ }
-{
-    pending >> (block % WORD_BITS) & 1 == 1
 }
 
 // A byte, as a number of any block.
@@ -72,7 +64,7 @@ impl Worklist {
         let count = self.count;
         let pending = self.pending;
         let b = block as u8;
-        if !is_marked(pending, block) {
+        if !has_bit(pending, block) {
             blocks[count] = b;
             let filled = count + 1;
             return Worklist {
@@ -97,7 +89,7 @@ impl Worklist {
         }
     }
 
-    // The core of a pop: the entry on top is taken off, and its mark, where there is one.
+    // The core of a pop: the entry on top is taken off, and its mark.
     fn popped(self) -> Popped
         requires { ⌜ Kept self × (empty (entries self) ≡ false) ⌝ }
         ensures { λ r. ⌜ (entries self ≡ r .block ∷ entries (r .rest)) × Kept (r .rest) ⌝ }

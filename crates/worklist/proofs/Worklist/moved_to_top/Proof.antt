@@ -19,18 +19,18 @@ abbrev μ-loop : tie.MeasureT-loop
 cast-b : tie.Need-cast-b Inv-loop μ-loop
 cast-b c = search needs
 
-is-marked-requires : tie.Need-is-marked-requires Inv-loop μ-loop
-is-marked-requires c κs = search needs
+has-bit-requires : tie.Need-has-bit-requires Inv-loop μ-loop
+has-bit-requires c κs = search needs
 
 array-write-blocks : tie.Need-array-write-blocks Inv-loop μ-loop
 array-write-blocks c =
     let S = c .before .before .before in
-    omega (arith, put-room (S .args .self) (S .args .block) (S .pre .0) (S .pre .1) (sym (c .before .is-marked .ensures) ∙ not-true _ (c .if1 .taken)))
+    omega (arith, put-room (S .args .self) (S .args .block) (S .pre .0) (S .pre .1) (sym (c .before .has-bit .ensures) ∙ not-true _ (c .if1 .taken)))
 
 add-filled : tie.Need-add-filled Inv-loop μ-loop
 add-filled c =
     let S = c .before .before .before in
-    omega (arith, put-room (S .args .self) (S .args .block) (S .pre .0) (S .pre .1) (sym (c .before .is-marked .ensures) ∙ not-true _ (c .if1 .taken)))
+    omega (arith, put-room (S .args .self) (S .args .block) (S .pre .0) (S .pre .1) (sym (c .before .has-bit .ensures) ∙ not-true _ (c .if1 .taken)))
 
 bit-of-requires : tie.Need-bit-of-requires Inv-loop μ-loop
 bit-of-requires c κs = search needs
@@ -38,19 +38,19 @@ bit-of-requires c κs = search needs
 returns : tie.Need-returns Inv-loop μ-loop
 returns c =
     let S = c .before .before .before .before in
-    put-pushed (S .args .self) (S .args .block) (S .pre .0) (S .pre .1) (sym (c .before .before .is-marked .ensures) ∙ not-true _ (c .before .if1 .taken))
+    put-pushed (S .args .self) (S .args .block) (S .pre .0) (S .pre .1) (sym (c .before .before .has-bit .ensures) ∙ not-true _ (c .before .if1 .taken))
     _ (c .bit-of .ensures) (search needs)
 
 sub-i : tie.Need-sub-i Inv-loop μ-loop
 sub-i c =
     let S = c .before .before .before in
-    moved-some (S .args .self) (S .args .block) (S .pre .0) (S .pre .1) (sym (c .before .is-marked .ensures) ∙ not-false _ (c .if1 .left))
+    moved-some (S .args .self) (S .args .block) (S .pre .0) (S .pre .1) (sym (c .before .has-bit .ensures) ∙ not-false _ (c .if1 .left))
 
 loop-holds : tie.Need-loop-holds Inv-loop μ-loop
 loop-holds c =
     let S = c .before .before .before in
     let long : length (S .args .self .blocks) ≡ largestBlocks = search needs in
-    (long, moved-start (S .args .self) (S .args .block) (S .pre .0) (S .pre .1) (sym (c .before .is-marked .ensures) ∙ not-false _ (c .if1 .left)) long)
+    (long, moved-start (S .args .self) (S .args .block) (S .pre .0) (S .pre .1) (sym (c .before .has-bit .ensures) ∙ not-false _ (c .if1 .left)) long)
 
 array-read-loop : tie.Need-array-read-loop Inv-loop μ-loop
 array-read-loop c = search needs
@@ -76,7 +76,7 @@ array-write-blocks-3 c = search needs
 returns-2 : tie.Need-returns-2 Inv-loop μ-loop
 returns-2 c =
     let S = c .before .before .before .before .before in
-    moved-pushed (S .args .self) (S .args .block) (S .pre .0) (S .pre .1) (sym (c .before .before .before .is-marked .ensures) ∙ not-false _ (c .before .before .if1 .left))
+    moved-pushed (S .args .self) (S .args .block) (S .pre .0) (S .pre .1) (sym (c .before .before .before .has-bit .ensures) ∙ not-false _ (c .before .before .if1 .left))
     _ _ _ (c .before .loop .inv .1) (c .loop-test .left) (c .before .loop .inv .0)
 
 pub moved-to-top-spec : {M : Type 1} → statement M
@@ -86,7 +86,7 @@ moved-to-top-spec =
     Inv-loop
     μ-loop
     cast-b
-    is-marked-requires
+    has-bit-requires
     array-write-blocks
     add-filled
     bit-of-requires
