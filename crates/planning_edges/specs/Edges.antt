@@ -140,6 +140,13 @@ module _ (s : List ℕ) (pointer : ℕ) (safepoint : Bool) (start : ℕ) (t : Ta
       noted-none (functionIn s) (Within s edgeKind start next) (λ ns. edgePlansAt s ns next (edgePlaces s start next)) (forEach (edgeStep (functionIn s) pointer safepoint) (edgesBetween s start next)) (next - start) t numbers
       (rw (none-before-next s start end u l) refl)
 
+  -- and none stands in front of the place itself
+  pub edges-none : start ≤ recordCount s → EdgesNoted s pointer safepoint start start t numbers t numbers
+  edges-none l =
+      let bounds = next-bounds s start start (omega arith) l in
+      let here : nextEdgePlace s start start ≡ start = omega (arith, bounds .0, bounds .1) in
+      subst (λ (n : ℕ). EdgesNoted s pointer safepoint start n t numbers t numbers) here (edges-start start (omega arith) l)
+
   -- one edge more
   edges-more :
       (i end : ℕ) → start ≤ i → i < end → end ≤ recordCount s → kind (recordAt s i) ≡ 7 → (u w : Tables) (ms ks : List ℕ)

@@ -74,8 +74,8 @@ fn plan_edge(
     )
 }
 
-// The edges of an instruction, from a place on and before place end.
-pub fn plan_edges(
+// Each edge from a place on and before place end.
+fn plan_each_edge(
     s: &[u8],
     places: &[usize],
     spilled: &[u64],
@@ -111,4 +111,39 @@ pub fn plan_edges(
         i = next;
     }
     done
+}
+
+// The edges of an instruction, from a place on and before place end. Most instructions have none, and then nothing is handed over.
+pub fn plan_edges(
+    s: &[u8],
+    places: &[usize],
+    spilled: &[u64],
+    safepoint: bool,
+    start: usize,
+    end: usize,
+    asked: &mut [u64],
+    steps: &mut [u32],
+    sizes: &mut [u32],
+    numbers: &mut [u32],
+    p: Progress,
+) -> Progress
+    requires { ⌜ Reading (now s) (now spilled) × Given (now s) (now places) × Range (now s) (now numbers) start end × EdgesIn (now s) start end × Blank (Within (now s) edgeKind start end) (now numbers) × Able (functionIn (now s)) (tables (now asked) (now steps) (now sizes) p) (end - start) ⌝ }
+    ensures { λ r. ⌜ EdgesNoted (now (s .entry)) (p .pointer) safepoint start end (tables (now (asked .entry)) (now (steps .entry)) (now (sizes .entry)) p) (now (numbers .entry)) (tables (now (asked .exit)) (now (steps .exit)) (now (sizes .exit)) r) (now (numbers .exit)) ⌝ }
+{
+    if start == end {
+        return p;
+    }
+    plan_each_edge(
+        s,
+        places,
+        spilled,
+        safepoint,
+        start,
+        end,
+        asked,
+        steps,
+        sizes,
+        numbers,
+        p,
+    )
 }

@@ -1,17 +1,18 @@
 -- A table of words read as sets: one row a block, value v at bit v mod 64 of word v / 64 of its row.
 use Prim.Native.Nat.{ℕ, zero, suc, _+_, _-_, _*_, _/_, _%_, _<_, _≤_}
 use native.Mathlib.Omega.{arith}
-use mathlib.Core.Path.{_≡_, refl, sym, ap, _∙_}
+use mathlib.Core.Path.{_≡_, refl, sym, ap, subst, _∙_}
 use mathlib.Core.Logic.{_≢_}
-use mathlib.Core.Bool.{true, false, not, _&&_, _||_}
+use mathlib.Core.Bool.{Bool, true, false, not, _&&_, _||_}
 use mathlib.Core.List.{List, [], _∷_}
 use lib.ListN.{length, getD, replicate, getD-replicate, length-replicate, List·getD-eq-default}
-use lib.Dec.{eqb, ltb, eqb→eq, ltb→lt, nltb→le}
+use lib.Dec.{T, eqb, ltb, eqb→eq, ltb→lt, nltb→le}
 use borrow.Author.Tests.{eq-eqb, ne-eqb, lt-ltb, le-ltb}
 use Rattle.rules.specs.Limits.{rowWords}
 use Rattle.rules.specs.Lists.{keep, upFrom, update, NumberSet, nothing, members}
 use Rattle.lists.specs.Tests.{test-elim, neqb→ne}
 use Rattle.rows.specs.Bits.{bitAt, bit-zero}
+use Rattle.rows.specs.Passed.{keep-passed}
 
 -- the values that a row has bits for
 abbrev pub rowValues : ℕ
@@ -130,3 +131,37 @@ unfolding size
 size-members n s l h =
     let whole : rowValues ≡ n + (rowValues - n) = omega arith in
     ap (λ m. length (members m s)) whole ∙ ap length (keep-below s 0 n (rowValues - n) (λ v k. h v (omega arith)))
+
+-- A set of no values has no member,
+kept-none : (s : NumberSet) (a n : ℕ) → length (keep s (upFrom a n)) ≡ 0 → (i : ℕ) → i < n → s (a + i) ≡ false
+kept-none s a zero e i l = absurd (omega arith)
+kept-none s a (suc n) e zero l = let here : a + 0 ≡ a = omega arith in ap s here ∙ first (s a) e
+  where
+    first : (b : Bool) → length {A = ℕ} (elim b [ true ↦ a ∷ keep s (upFrom (suc a) n) | false ↦ keep s (upFrom (suc a) n) ]) ≡ 0 → b ≡ false
+    first true q = absurd (omega arith)
+    first false q = refl
+kept-none s a (suc n) e (suc i) l =
+    let next : a + suc i ≡ suc a + i = omega arith in
+    ap s next ∙ kept-none s (suc a) n (rest (s a) e) i (omega arith)
+  where
+    rest : (b : Bool) → length {A = ℕ} (elim b [ true ↦ a ∷ keep s (upFrom (suc a) n) | false ↦ keep s (upFrom (suc a) n) ]) ≡ 0 → length (keep s (upFrom (suc a) n)) ≡ 0
+    rest true q = absurd (omega arith)
+    rest false q = q
+
+pub size-none : (s : NumberSet) → size s ≡ 0 → (v : ℕ) → v < rowValues → s v ≡ false
+unfolding size
+size-none s e v l = let here : 0 + v ≡ v = omega arith in ap s (sym here) ∙ kept-none s 0 rowValues e v l
+
+-- and the other way round
+pub none-size : (s : NumberSet) → ((v : ℕ) → v < rowValues → s v ≡ false) → size s ≡ 0
+unfolding size
+none-size s h =
+    let all : rowValues - 0 ≡ rowValues = omega arith in
+    let left : rowValues - rowValues ≡ 0 = omega arith in
+    ap (λ n. length (keep s (upFrom 0 n))) (sym all)
+    ∙ ap length (keep-passed s 0 rowValues rowValues (omega arith) (omega arith) (λ u _ l. h u l))
+    ∙ ap (λ n. length (keep s (upFrom rowValues n))) left
+
+-- AN ANSWER that a set is empty
+pub empty-size : {b : Bool} (s : NumberSet) → b ≡ eqb (size s) 0 → b ≡ true → size s ≡ 0
+empty-size s e h = eqb→eq (size s) 0 (subst T (sym h ∙ e) tt)

@@ -173,6 +173,20 @@ pub fn word_of(t: &[u64], row: usize, k: usize) -> u64
     t[ROW_WORDS * row + k]
 }
 
+// Whether a row has no value: no bit of its words, which are taken together.
+pub fn is_empty(t: &[u64], row: usize) -> bool
+    requires { ⌜ HasRow (now t) row ⌝ }
+    ensures { λ r. ⌜ r ≡ eqb (size (rows (now (t .entry)) row)) 0 ⌝ }
+{
+    let mut together: u64 = 0;
+    let mut k = 0;
+    while k < ROW_WORDS {
+        together = together | word_of(t, row, k);
+        k += 1;
+    }
+    zeros_below(together) == WORD_BITS
+}
+
 // The lesser of two numbers.
 pub fn least(a: usize, b: usize) -> usize
     ensures { λ r. ⌜ r ≡ min a b ⌝ }

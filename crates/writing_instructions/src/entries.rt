@@ -15,6 +15,7 @@ ghost use Rattle.writing.specs.Wrote.{room, Wrote};
 ghost use Rattle.writing_instructions.specs.Entries.{entryOf, entryAt, entriesBelow, inWord};
 use records::values::size_of;
 use rows::WORD_BITS;
+use rows::is_empty;
 use rows::least;
 use rows::without_lowest;
 use rows::word_of;
@@ -62,8 +63,8 @@ fn put_word_entries(
     at
 }
 
-// The entries of the values below a number that are on the list that row i has.
-pub fn put_entries(
+// The entries of the values below a number that row i has, word by word.
+fn put_listed(
     s: &[u8],
     slots: &[u32],
     lists: &[u64],
@@ -84,4 +85,23 @@ pub fn put_entries(
         k += 1;
     }
     at
+}
+
+// The entries of the values below a number that are on the list that row i has. Most instructions are no safepoints and
+// have none, so this is asked of the row as a whole first.
+pub fn put_entries(
+    s: &[u8],
+    slots: &[u32],
+    lists: &[u64],
+    i: usize,
+    values: usize,
+    out: &mut [u8],
+) -> usize
+    requires { ⌜ (ordered 0 (records (now s)) ≡ true) × HasRow (now lists) i × (values ≤ rowValues) × (room (entriesBelow (sizeOf (functionIn (now s))) (slotIn (now slots)) (rows (now lists) i) values) ≤ length (now out)) ⌝ }
+    ensures { λ r. ⌜ Wrote (now (out .entry)) (entriesBelow (sizeOf (functionIn (now (s .entry)))) (slotIn (now (slots .entry))) (rows (now (lists .entry)) i) values) r (now (out .exit)) ⌝ }
+{
+    if is_empty(lists, i) {
+        return 0;
+    }
+    put_listed(s, slots, lists, i, values, out)
 }

@@ -20,11 +20,11 @@ abbrev μ-loop : tie.MeasureT-loop
 loop-holds : tie.Need-loop-holds Inv-loop μ-loop
 loop-holds c = (omega arith, sum-start (λ j. size (rows (c .before .args .lists .now) j)), omega arith)
 
-count-requires : tie.Need-count-requires Inv-loop μ-loop
-count-requires c κs = omega (arith, c .before .before .before .pre .0)
+count-listed-requires : tie.Need-count-listed-requires Inv-loop μ-loop
+count-listed-requires c κs = omega (arith, c .before .before .before .pre .0)
 
 add-found : tie.Need-add-found Inv-loop μ-loop
-add-found c = omega (arith, c .before .before .loop .inv .2, c .before .before .before .before .pre .1, c .count .ensures, size-ascending (rows (c .before .before .before .before .args .lists .now) (c .before .before .loop .i)), ascending-small (rows (c .before .before .before .before .args .lists .now) (c .before .before .loop .i)))
+add-found c = omega (arith, c .before .before .loop .inv .2, c .before .before .before .before .pre .1, c .count-listed .ensures, size-ascending (rows (c .before .before .before .before .args .lists .now) (c .before .before .loop .i)), ascending-small (rows (c .before .before .before .before .args .lists .now) (c .before .before .loop .i)))
 
 add-i : tie.Need-add-i Inv-loop μ-loop
 add-i c = omega (arith, c .before .before .before .before .pre .1)
@@ -37,8 +37,8 @@ loop-again c =
     let set = rows (c .before .before .before .before .args .lists .now) in
     let turn = sum-turn (λ j. size (set j)) (c .before .before .loop .i) in (
       omega arith,
-      omega (arith, c .before .before .loop .inv .1, c .count .ensures, turn),
-      omega (arith, c .before .before .loop .inv .2, c .count .ensures, size-ascending (set (c .before .before .loop .i)), ascending-small (set (c .before .before .loop .i))),
+      omega (arith, c .before .before .loop .inv .1, c .count-listed .ensures, turn),
+      omega (arith, c .before .before .loop .inv .2, c .count-listed .ensures, size-ascending (set (c .before .before .loop .i)), ascending-small (set (c .before .before .loop .i))),
     )
 
 returns : tie.Need-returns Inv-loop μ-loop
@@ -47,4 +47,4 @@ returns c =
     rw (← at) (c .before .loop .inv .1, c .before .loop .inv .2)
 
 pub count-entries-spec : {M : Type 1} → statement M
-count-entries-spec = tie.close (tie.spec Inv-loop μ-loop loop-holds count-requires add-found add-i loop-less loop-again returns)
+count-entries-spec = tie.close (tie.spec Inv-loop μ-loop loop-holds count-listed-requires add-found add-i loop-less loop-again returns)
