@@ -86,7 +86,8 @@ fn rewritten(file: &[u8], pointer_size: u32, output: &mut [u8], counting: Counti
         return RewriteAnswer { records, visits, pushes, unchanged: true, ..RewriteAnswer::default() };
     }
     if counting == Counting::BitByBit {
-        black_box(lists.spilled.counted() + lists.rows.iter().map(row::Row::counted).sum::<usize>());
+        let listed = lists.rows.iter().filter(|row| !row.is_empty());
+        black_box(lists.spilled.counted() + listed.map(row::Row::counted).sum::<usize>());
     }
     let plan = plan::plan(&function, &live, &lists, pointer_size);
     if output.len() / 16 < plan.records {

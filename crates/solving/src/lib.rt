@@ -2,10 +2,11 @@
 // and a block stands for its index.
 ghost use mathlib.Core.Path.{_≡_};
 ghost use mathlib.Core.Bool.{true};
+ghost use mathlib.Core.List.{_∷_, []};
 ghost use Prim.Native.Nat.{ℕ, _≤_, _<_};
 ghost use lib.ListN.{length, getD, take};
 ghost use Rattle.rules.specs.Lists.{empty};
-ghost use Rattle.rules.specs.Records.{recordCount, records};
+ghost use Rattle.rules.specs.Records.{recordAt, recordCount, records};
 ghost use Rattle.rules.specs.File.{named, ordered, functionIn};
 ghost use Rattle.rules.specs.Liveness.{process};
 ghost use Rattle.lists.specs.Members.{_∈_};
@@ -18,8 +19,8 @@ ghost use Rattle.worklist.specs.Entries.{entries, Stacked, Kept};
 ghost use Rattle.solving.specs.Chains.{chain, Chain};
 ghost use Rattle.solving.specs.Progress.{joinedInto, Added, Pushable, Pushed, Stands};
 ghost use Rattle.solving.specs.Tables.{Ruled, LiveTables, Listed, Ready, Solvable};
-use graph::edges::next_edge;
-use graph::edges::next_edge_in_tail;
+use records::in_order::kind_at;
+use records::in_order::words_at;
 use rows::count;
 use rows::join;
 use rows::transfer;
@@ -38,15 +39,30 @@ pub struct LivenessCounts {
     pub pushes: u32,
 }
 
-// A block's row of live-out gets the live-in of each target of the edges between two places.
+// A block's row of live-out gets the live-in of the target of the record at place i, if that is an edge.
+fn join_target(s: &[u8], i: usize, outs: &mut [u64], b: usize, ins: &[u64])
+    requires { ⌜ (i < recordCount (now s)) × HasRow (now outs) b × ((t : ℕ) → t ∈ named 7 (recordAt (now s) i ∷ []) → HasRow (now ins) t) × (ordered 0 (records (now s)) ≡ true) ⌝ }
+    ensures { λ _. ⌜ rows (now (outs .exit)) ≡ joinedInto b (rows (now (ins .entry))) (named 7 (recordAt (now (s .entry)) i ∷ [])) (rows (now (outs .entry))) ⌝ }
+{
+    let w = words_at(s, i);
+    if w.kind == 7 {
+        join(outs, b, ins, w.second as usize);
+    }
+}
+
+// A block's row of live-out gets the live-in of each target of the edges between two places. They stand in the block's tail, which
+// is read once, from its end.
 fn join_successors(s: &[u8], start: usize, end: usize, outs: &mut [u64], b: usize, ins: &[u64])
     requires { ⌜ (start ≤ end) × (end ≤ recordCount (now s)) × HasRow (now outs) b × ((t : ℕ) → t ∈ named 7 (between (now s) start end) → HasRow (now ins) t) × (ordered 0 (records (now s)) ≡ true) × TailLast (now s) start end ⌝ }
     ensures { λ _. ⌜ rows (now (outs .exit)) ≡ joinedInto b (rows (now (ins .entry))) (named 7 (between (now (s .entry)) start end)) (rows (now (outs .entry))) ⌝ }
 {
-    let mut edge = next_edge_in_tail(s, start, end);
-    while edge.tag > 0 {
-        join(outs, b, ins, edge.tag - 1);
-        edge = next_edge(s, edge.behind, end);
+    let mut i = end;
+    while i > start {
+        if kind_at(s, i - 1) < 7 {
+            return;
+        }
+        i -= 1;
+        join_target(s, i, outs, b, ins);
     }
 }
 
