@@ -1,8 +1,8 @@
 -- Where edges stand: in the tails of blocks. What else a file in order has is passed over: the values in front of the first
 -- block, each block's record, and what stands before the block's tail.
 use Prim.Native.Nat.{ℕ, zero, suc, _+_, _-_, _<_, _≤_}
-use mathlib.Core.Path.{_≡_, sym, ap, subst, _∙_}
-use mathlib.Core.Bool.{Bool, true, _&&_}
+use mathlib.Core.Path.{_≡_, refl, sym, ap, subst, _∙_}
+use mathlib.Core.Bool.{Bool, true, false, _&&_}
 use mathlib.Core.List.{List}
 use native.Mathlib.Omega.{arith}
 use lib.ListN.{length, getD}
@@ -11,14 +11,14 @@ use Rattle.rules.specs.Lists.{all}
 use Rattle.rules.specs.Records.{kind, recordAt, recordCount, records}
 use Rattle.rules.specs.File.{ordered, functionIn}
 use Rattle.records.specs.Kinds.{Kinds}
-use Rattle.records.specs.Places.{rest, rest-more, rest-all, restBy-done}
+use Rattle.records.specs.Places.{rest, rest-more, rest-next, rest-all, restBy-done}
 use Rattle.records.specs.Parts.{front-values}
 use Rattle.graph.specs.Between.{kinds-between}
 use Rattle.graph.specs.Tails.{NoTail}
 use Rattle.graph.specs.Blocks.{placeOf, place-le, place-less, place-last, block-head, front-by-place}
 use Rattle.graph.specs.Tables.{Given}
 use Rattle.graph.specs.ByTable.{place-at}
-use Rattle.soundness.specs.Fitting.{fitting, no-edge}
+use Rattle.soundness.specs.Fitting.{edgeFits, fitting, no-edge}
 
 module _ (s : List ℕ) where
   -- from a place on every edge fits
@@ -40,6 +40,31 @@ module _ (s : List ℕ) where
           (no-edge (functionIn s) (recordAt s p) (rest s (suc p))
           (not-T (eqb (kind (recordAt s p)) 7) (λ t. let same = eqb→eq (kind (recordAt s p)) 7 t in omega arith)))
           ∙ from n (suc p) (omega arith) (λ i h. none i (omega arith))
+
+  -- One record further back they fit if its own edge does;
+  pub fitting-back :
+      (i : ℕ) → 0 < i → i ≤ recordCount s → {b : Bool} → b ≡ edgeFits (functionIn s) (recordAt s (i - 1)) (rest s (i - 1 + 1))
+      → fittingFrom (i - 1) ≡ (b && fittingFrom i)
+  fitting-back i l m {b} e =
+      let next : i - 1 + 1 ≡ i = omega arith in
+      ap (fitting (functionIn s)) (rest-next s (i - 1) (omega arith))
+      ∙ ap (λ x. x && fittingFrom (i - 1 + 1)) (sym e)
+      ∙ ap (λ j. b && fittingFrom j) next
+
+  -- and where they do not fit from a place on, they do not from one before it.
+  pub unfit-before : (p j : ℕ) → p ≤ j → j ≤ recordCount s → fittingFrom j ≡ false → fittingFrom p ≡ false
+  unfit-before p j l m e = from (j - p) p (omega arith)
+    where
+      none : (b : Bool) → (b && false) ≡ false
+      none true = refl
+      none false = refl
+
+      from : (n p : ℕ) → p + n ≡ j → fittingFrom p ≡ false
+      from zero p same = let here : p ≡ j = omega arith in ap fittingFrom here ∙ e
+      from (suc n) p same =
+          ap (fitting (functionIn s)) (rest-more s p (omega arith))
+          ∙ ap (λ b. edgeFits (functionIn s) (recordAt s p) (rest s (suc p)) && b) (from n (suc p) (omega arith))
+          ∙ none (edgeFits (functionIn s) (recordAt s p) (rest s (suc p)))
 
   -- values stand in front of the first block,
   front-none : T (ordered 0 (records s)) → NoTail s 0 (placeOf s 0)

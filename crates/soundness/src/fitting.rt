@@ -11,7 +11,6 @@ ghost use Rattle.records.specs.Parts.{argument};
 ghost use Rattle.graph.specs.Tails.{TailsLast, TailLast};
 ghost use Rattle.graph.specs.Tables.{Given};
 ghost use Rattle.soundness.specs.Fitting.{argumentsFirst, parametersFirst, argumentFits, edgeFits, fitting};
-use graph::edges::tail_from;
 use records::in_order::kind_at;
 use records::in_order::words_at;
 use records::in_order::words_from;
@@ -70,18 +69,21 @@ fn edge_fits(s: &[u8], places: &[usize], i: usize) -> bool
     arguments_fit(s, i + 1, places[target] + 1)
 }
 
-// Whether every edge from a place on and before the block's end fits, where edges stand in the block's tail. So every edge
-// from the place on fits if these do and every one from the end on.
+// Whether every edge from a place on and before the block's end fits, where edges stand in the block's tail, which is read from its
+// end. So every edge from the place on fits if these do and every one from the end on.
 fn block_edges_fit(s: &[u8], places: &[usize], start: usize, end: usize) -> bool
     requires { ⌜ Given (now s) (now places) × (start ≤ end) × (end ≤ recordCount (now s)) × TailLast (now s) start end ⌝ }
     ensures { λ r. ⌜ (r && fitting (functionIn (now (s .entry))) (rest (now (s .entry)) end)) ≡ fitting (functionIn (now (s .entry))) (rest (now (s .entry)) start) ⌝ }
 {
-    let mut i = tail_from(s, start, end);
-    while i < end {
+    let mut i = end;
+    while i > start {
+        if kind_at(s, i - 1) < 7 {
+            return true;
+        }
+        i -= 1;
         if !edge_fits(s, places, i) {
             return false;
         }
-        i += 1;
     }
     true
 }
