@@ -1,5 +1,6 @@
 // Refusal 3: the largest counts, of all records and of values, blocks, instructions and edges.
 ghost use mathlib.Core.Path.{_≡_};
+ghost use Prim.Native.Nat.{_≤_};
 ghost use lib.Dec.{eqb, ltb};
 ghost use Rattle.rules.specs.Limits.{largestRecords};
 ghost use Rattle.rules.specs.Records.{bit, recordCount};
@@ -13,7 +14,7 @@ use rules::LARGEST_VALUES;
 use rules::RECORD_BYTES;
 
 // What a record counts for: 1 where its kind is the one that is counted.
-pub fn one_if_same(a: u32, b: u32) -> usize
+pub fn one_if_same(a: u32, b: u32) -> u32
     ensures { λ r. ⌜ r ≡ bit (eqb a b) ⌝ }
 {
     if a == b {
@@ -30,15 +31,16 @@ pub struct KindCounts {
     pub edges: usize,
 }
 
-// All four in one pass.
+// All four in one pass. They are counted as the words are read, in 32 bits, so that several words are compared at once.
 pub fn count_kinds(s: &[u8]) -> KindCounts
+    requires { ⌜ recordCount (now s) ≤ largestRecords ⌝ }
     ensures { λ r. ⌜ CountsOf (now (s .entry)) r ⌝ }
 {
     let n = s.len() / RECORD_BYTES;
-    let mut values: usize = 0;
-    let mut blocks: usize = 0;
-    let mut instructions: usize = 0;
-    let mut edges: usize = 0;
+    let mut values: u32 = 0;
+    let mut blocks: u32 = 0;
+    let mut instructions: u32 = 0;
+    let mut edges: u32 = 0;
     let mut i: usize = 0;
     while i < n {
         let k = word_at(s, RECORD_BYTES * i);
@@ -49,10 +51,10 @@ pub fn count_kinds(s: &[u8]) -> KindCounts
         i += 1;
     }
     KindCounts {
-        values,
-        blocks,
-        instructions,
-        edges,
+        values: values as usize,
+        blocks: blocks as usize,
+        instructions: instructions as usize,
+        edges: edges as usize,
     }
 }
 

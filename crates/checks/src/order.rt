@@ -1,10 +1,11 @@
 // Refusal 4: the order of records, words outside the table, and blocks numbered by their position.
 ghost use mathlib.Core.Path.{_≡_};
-ghost use Prim.Native.Nat.{_<_};
+ghost use Prim.Native.Nat.{_<_, _≤_};
 ghost use mathlib.Core.Bool.{not, _&&_, _||_};
 ghost use lib.Dec.{eqb};
 ghost use lib.ListN.{getD};
-ghost use Rattle.rules.specs.Records.{records};
+ghost use Rattle.rules.specs.Limits.{largestRecords};
+ghost use Rattle.rules.specs.Records.{recordCount, records};
 ghost use Rattle.rules.specs.File.{follows, ordered, functionIn};
 ghost use Rattle.rules.specs.Refusals.{numberedFrom};
 ghost use Rattle.checks.specs.Order.{followerBits};
@@ -43,22 +44,23 @@ fn may_follow(p: u32, k: u32) -> bool
 }
 
 // Whether four words that open a block have this number; others have any.
-fn numbered_as(w: Words, number: usize) -> bool
+fn numbered_as(w: Words, number: u32) -> bool
     ensures { λ b. ⌜ b ≡ (not (eqb 2 (w .kind)) || eqb (w .third) number) ⌝ }
 {
     if w.kind == 2 {
-        return w.third as usize == number;
+        return w.third == number;
     }
     true
 }
 
 // Whether a file is malformed: a word outside the table, out of order, no block, or a block not numbered by its position.
 pub fn malformed(s: &[u8]) -> bool
+    requires { ⌜ recordCount (now s) ≤ largestRecords ⌝ }
     ensures { λ r. ⌜ r ≡ not (ordered 0 (records (now (s .entry))) && numberedFrom 0 (functionIn (now (s .entry)) .blocks)) ⌝ }
 {
     let n = s.len() / RECORD_BYTES;
     let mut p: u32 = 0;
-    let mut number: usize = 0;
+    let mut number: u32 = 0;
     let mut i: usize = 0;
     while i < n {
         let w = four_words(s, i);

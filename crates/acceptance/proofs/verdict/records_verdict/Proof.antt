@@ -2,7 +2,8 @@
 use Rattle.rules.specs.declared.Verdict.the-variants as verdict
 use mathlib.Core.Path.{sym, ap, _∙_}
 use mathlib.Core.Bool.{true, false}
-use borrow.Author.Tests.{eq-eqb, ne-eqb}
+use borrow.Author.Tests.{eq-eqb, ne-eqb, ltb-false}
+use Rattle.rules.specs.Limits.{largestRecords}
 use Rattle.rules.specs.declared.Verdict.{Verdict}
 use Rattle.checks.specs.Counts.{tooMany-long, tooMany-counted}
 use Rattle.acceptance.specs.Stages.{records-length, records-many, records-malformed, records-last, not-malformed}
@@ -22,7 +23,7 @@ returns-2 c =
     sym (records-many s (eq-eqb _ 0 (c .before .before .if1 .left)) (tooMany-long s (sym (c .before .too-long .ensures) ∙ c .if2 .taken)))
 
 count-kinds-requires : tie.Need-count-kinds-requires
-count-kinds-requires c κs = search needs
+count-kinds-requires c κs = ltb-false largestRecords _ (sym (c .before .too-long .ensures) ∙ c .if2 .left)
 
 above-largest-requires : tie.Need-above-largest-requires
 above-largest-requires c κs = search needs
@@ -34,7 +35,7 @@ returns-3 c =
     sym (records-many s (eq-eqb _ 0 (c .before .before .before .before .before .if1 .left)) many)
 
 malformed-requires : tie.Need-malformed-requires
-malformed-requires c κs = search needs
+malformed-requires c κs = ltb-false largestRecords _ (sym (c .before .before .before .before .too-long .ensures) ∙ c .before .before .before .if2 .left)
 
 returns-4 : tie.Need-returns-4
 returns-4 c =

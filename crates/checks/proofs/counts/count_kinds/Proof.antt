@@ -67,6 +67,18 @@ loop-again c =
       counted-more s 7 (c .before .before .before .before .before .before .loop .edges) i (omega arith) (c .before .before .before .before .before .before .loop .inv .4) w (c .one-if-same4 .result) (c .before .before .before .before .word-at .ensures) (c .one-if-same4 .ensures),
     )
 
+cast-t9 : tie.Need-cast-t9 Inv-loop μ-loop
+cast-t9 c = search needs
+
+cast-t13 : tie.Need-cast-t13 Inv-loop μ-loop
+cast-t13 c = search needs
+
+cast-t14 : tie.Need-cast-t14 Inv-loop μ-loop
+cast-t14 c = search needs
+
+cast-t15 : tie.Need-cast-t15 Inv-loop μ-loop
+cast-t15 c = search needs
+
 returns : tie.Need-returns Inv-loop μ-loop
 returns c =
     let s = c .before .before .before .args .s .now in
@@ -98,4 +110,8 @@ count-kinds-spec =
     add-i
     loop-less
     loop-again
+    cast-t9
+    cast-t13
+    cast-t14
+    cast-t15
     returns)
