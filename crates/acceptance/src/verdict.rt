@@ -11,11 +11,12 @@ ghost use Rattle.acceptance.specs.Stages.{thenRefused, recordRefusals, f
 use checks::counts::above_largest;
 use checks::counts::count_kinds;
 use checks::counts::too_long;
-use checks::definitions::not_defined_once;
+use checks::definitions::each_once;
 use checks::numbers::not_in_file;
 use checks::order::malformed;
 use rules::RECORD_BYTES;
 use rules::Verdict;
+use soundness::standing::all_stand;
 use soundness::unsound;
 
 // Document 01's number of a verdict, 0 where the call is answered.
@@ -87,10 +88,11 @@ pub fn function_verdict(s: &[u8], counts: &mut [u32], places: &[usize], blocks: 
     requires { ⌜ Countable (now s) (now counts) × Given (now s) (now places) × (blocks ≡ length (functionIn (now s) .blocks)) ⌝ }
     ensures { λ r. ⌜ (r ≡ firstOf (functionRefusals (now (s .entry)))) × (now (counts .exit) ≡ notedAll (now (counts .entry)) (records (now (s .entry)))) ⌝ }
 {
-    if not_defined_once(s, counts) {
+    let stands = all_stand(s, counts);
+    if !each_once(counts, places[0]) {
         return Verdict::NotDefinedOnce;
     }
-    if unsound(s, places, blocks) {
+    if unsound(s, places, blocks, stands) {
         return Verdict::Unsound;
     }
     Verdict::Accepted

@@ -2,24 +2,20 @@
 use Prim.Native.Nat.{ℕ, zero, suc, _+_, _*_, _<_, _≤_}
 use mathlib.Core.Path.{_≡_, sym, ap, subst, _∙_}
 use lib.Dec.{T, eqb}
-use mathlib.Core.List.{List, [], _∷_}
+use mathlib.Core.List.{List, _∷_}
 use mathlib.Core.Bool.{Bool, true, false}
 use native.Mathlib.Omega.{arith}
 use lib.ListN.{length}
-use borrow.Author.Tests.{ne-eqb}
 use Rattle.rules.specs.Limits.{recordBytes}
 use Rattle.rules.specs.Lists.{count}
 use Rattle.rules.specs.Records.{wordAt, encode, kind, recordAt, recordCount, records, firstWords, bit}
-use Rattle.rules.specs.File.{ofKind, ordered, followers}
+use Rattle.rules.specs.File.{ofKind, ordered}
 use Rattle.rules.specs.declared.Record.{Record}
 use Rattle.rules.specs.declared.Words.{Words}
 use Rattle.lists.specs.Counts.{count-more, bit-at-most}
 use Rattle.lists.specs.Tests.{eqb-same}
 use Rattle.records.specs.Places.{firstWordsRest, firstWords-next, firstWords-all, rest, rest-next, rest-all, restBy-done}
-use Rattle.records.specs.Kinds.{Kinds}
-use Rattle.records.specs.InOrder.{ordered-chain, keptBy}
 use Rattle.records.specs.InTable.{words-at}
-use Rattle.records.specs.Leading.{leading, leadsBy, leading-all}
 
 pub count-rest :
     (s : List ℕ) (k i : ℕ) → i < recordCount s
@@ -76,35 +72,3 @@ module _ (s : List ℕ) (k : ℕ) (o : ordered 0 (records s) ≡ true) where
   pub kinds-counted : count (eqb k) (firstWords s) ≡ length (ofKind k (records s))
   kinds-counted =
       ap (count (eqb k)) (sym (firstWords-all s)) ∙ kinds-rest (recordCount s) 0 (omega arith) ∙ ap (λ rs. length (ofKind k rs)) (rest-all s)
-
--- VALUES STAND FIRST in records in order, and so are counted up to the first record of another kind.
-values-lead : (rs : List Record) → T (ordered 0 rs) → ofKind 1 rs ≡ leading 1 rs
-unfolding leadsBy keptBy followers
-values-lead rs o = leading-all 1 (0 ∷ 1 ∷ []) (2 ∷ 3 ∷ 4 ∷ 5 ∷ 6 ∷ 7 ∷ 8 ∷ 9 ∷ []) (λ j. true) tt 0 rs tt (ordered-chain 0 rs o) (any-kind rs)
-  where
-    any-kind : (xs : List Record) → Kinds (λ j. true) xs
-    any-kind [] = tt
-    any-kind (x ∷ xs) = any-kind xs
-
-module _ (s : List ℕ) where
-  -- the values from a place on, before which there is nothing but values
-  abbrev pub valuesFrom : ℕ → List Words
-  valuesFrom i = leading 1 (rest s i)
-
-  pub valuesFrom-all : ordered 0 (records s) ≡ true → valuesFrom 0 ≡ ofKind 1 (records s)
-  valuesFrom-all o = ap (leading 1) (rest-all s) ∙ sym (values-lead (records s) (subst T (sym o) tt))
-
-  pub valuesFrom-done : (i : ℕ) → i ≡ recordCount s → valuesFrom i ≡ []
-  valuesFrom-done i e = ap (leading 1) (ap (rest s) e ∙ restBy-done (λ t. recordAt t 0) s)
-
-  module _ (i : ℕ) (h : i < recordCount s) where
-    -- one record more, by whether it is a value
-    one-more : (b : Bool) → eqb (kind (recordAt s i)) 1 ≡ b → valuesFrom i ≡ elim b [ true ↦ encode (recordAt s i) ∷ valuesFrom (i + 1) | false ↦ [] ]
-    one-more b e =
-        ap (leading 1) (rest-next s i h) ∙ ap (λ (x : Bool). elim x as (λ _. List Words) [ true ↦ encode (recordAt s i) ∷ valuesFrom (i + 1) | false ↦ [] ]) e
-
-    pub valuesFrom-other : (kind (recordAt s i) ≡ 1 → ⊥) → valuesFrom i ≡ []
-    valuesFrom-other k = one-more false (ne-eqb (kind (recordAt s i)) 1 k)
-
-    pub valuesFrom-more : kind (recordAt s i) ≡ 1 → valuesFrom i ≡ encode (recordAt s i) ∷ valuesFrom (i + 1)
-    valuesFrom-more k = one-more true (ap (λ (j : ℕ). eqb j 1) k)

@@ -21,6 +21,7 @@ use Rattle.graph.specs.Zeros.{getD-padded, length-padded-le}
 use Rattle.graph.specs.Between.{between, kinds-between}
 use Rattle.graph.specs.Tails.{TailsLast, TailLast}
 use Rattle.graph.specs.Blocks.{blockTable, placeOf, bodyAt, length-blockTable, place-le, place-less, block-body, successors-by-place}
+use Rattle.graph.specs.Values.{values-first}
 use Rattle.graph.specs.Tables.{Given}
 use Rattle.graph.specs.Links.{Walked}
 
@@ -36,6 +37,10 @@ module _ (s places : List ℕ) (g : Given s places) where
 
   pub place-at : (b : ℕ) → getD places b 0 ≡ placeOf s b
   place-at b = ap (λ (p : List ℕ). getD p b 0) (g .table) ∙ getD-padded (length places) (blockTable s) b
+
+  -- values are counted by the place of the first block
+  pub values-by-table : getD places 0 0 ≡ length (functionIn s .values)
+  values-by-table = place-at 0 ∙ values-first s (g .inOrder)
 
   module _ (b : ℕ) (l : b < length (functionIn s .blocks)) where
     -- a block ends in the file

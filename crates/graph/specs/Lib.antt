@@ -8,6 +8,7 @@ pub mod NextEdge
 pub mod Tables
 pub mod Few
 pub mod Links
+pub mod Values
 pub mod ByTable
 pub mod LinkLaws
 pub mod Room

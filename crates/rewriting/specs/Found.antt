@@ -25,7 +25,7 @@ use Rattle.fixpoint.specs.Rule.{marked-in-file}
 use Rattle.sharing.specs.Spilled.{spilled-marked}
 use Rattle.agreement.specs.Accepted.{Accepted}
 use Rattle.graph.specs.Few.{records-few, values-few}
-use Rattle.graph.specs.ByTable.{place-at, places-long}
+use Rattle.graph.specs.ByTable.{places-long, values-by-table}
 use Rattle.rows.specs.Rows.{rows, rowValues, size, size-members}
 use Rattle.planning.specs.Operands.{Reading}
 use Rattle.acceptance.specs.Survey.{accepted-is}
@@ -34,7 +34,6 @@ use Rattle.rewriting.specs.Answers.{Outcome, refusedBy, outcome-refused,
 use Rattle.rewriting.specs.Rows.{LiveRows, PointerFine}
 use Rattle.rewriting.specs.Trees.{accepted-tree}
 use Rattle.rewriting.specs.Unspilled.{planned-nothing}
-use Rattle.rewriting.specs.Values.{values-first}
 
 -- a list with no members is empty
 empty-length : {A : Type 0} (xs : List A) → length xs ≡ 0 → empty xs ≡ true
@@ -64,7 +63,7 @@ module _ {s places order index outs lists spilled : List ℕ} {found : Found} (h
 
   -- values are counted by the place of the first block
   pub values-counted : getD places 0 0 ≡ length (f .values)
-  values-counted = place-at s places (h .tables .walked .given) 0 ∙ values-first s in-order
+  values-counted = values-by-table s places (h .tables .walked .given)
 
   pub places-some : suc zero ≤ length places
   places-some = let l = places-long s places (h .tables .walked .given) in omega arith

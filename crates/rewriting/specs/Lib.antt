@@ -5,4 +5,3 @@ pub mod Plans
 pub mod Rows
 pub mod Trees
 pub mod Unspilled
-pub mod Values

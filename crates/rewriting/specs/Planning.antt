@@ -19,7 +19,7 @@ use Rattle.rules.specs.Plan.{Plan, planned}
 use Rattle.lists.specs.Tests.{is-true}
 use Rattle.graph.specs.Few.{records-few, values-few, blocks-few, instructions-few}
 use Rattle.graph.specs.Links.{Walked}
-use Rattle.graph.specs.ByTable.{place-at, places-long}
+use Rattle.graph.specs.ByTable.{places-long, values-by-table}
 use Rattle.graph.specs.Zeros.{Zeros, zeros-zeros}
 use Rattle.rows.specs.Rows.{rows, rowValues}
 use Rattle.listing.specs.Ascending.{length-lists-instructions}
@@ -39,7 +39,6 @@ use Rattle.rewriting.specs.Plans.{countsOf, PlanFound}
 use Rattle.rewriting.specs.Rows.{PointerFine, Spilling}
 use Rattle.analysis.specs.Tables.{index-tables}
 use Rattle.rewriting.specs.Trees.{accepted-tree}
-use Rattle.rewriting.specs.Values.{values-first}
 
 -- an accepted file by its tables, with its live sets, its lists and its spilled values as rows, of sizes that a slot can have
 pub record Plannable (s places order outs lists′ spilled : List ℕ) (found : Found) : Type 0 where
@@ -80,7 +79,7 @@ module _ {s places order outs lists′ spilled : List ℕ} {found : Found} (h : 
   in-order = h .walked .given .inOrder
 
   pub values-counted : getD places 0 0 ≡ length (f .values)
-  values-counted = place-at s places (h .walked .given) 0 ∙ values-first s in-order
+  values-counted = values-by-table s places (h .walked .given)
 
   pub places-some : 0 < length places
   places-some = let l = places-long s places (h .walked .given) in omega (arith, l)

@@ -26,7 +26,8 @@ use Rattle.fixpoint.specs.Sums.{sum}
 use Rattle.agreement.specs.Growing.{Grown, nothing-kept, planned-costs, blockCost}
 use Rattle.demand3.specs.Totals.{planMost, cost-few}
 use Rattle.graph.specs.Few.{records-few, values-few, blocks-few, instructions-few}
-use Rattle.graph.specs.ByTable.{place-at, places-long}
+use Rattle.graph.specs.Values.{values-first}
+use Rattle.graph.specs.ByTable.{places-long, values-by-table}
 use Rattle.soundness.specs.Tails.{sound-tails}
 use Rattle.rows.specs.Rows.{rows, rowValues, size}
 use Rattle.listing.specs.Ascending.{length-lists-instructions}
@@ -44,7 +45,6 @@ use Rattle.rewriting.specs.declared.Planned.{Planned}
 use Rattle.rewriting.specs.Answers.{Outcome, tooShort, outcome-short, outcome-accepted, verdict-short, verdict-fits, records-changed}
 use Rattle.rewriting.specs.Rows.{PointerFine}
 use Rattle.rewriting.specs.Trees.{accepted-tree}
-use Rattle.rewriting.specs.Values.{values-first}
 
 -- how many there are of what is written
 abbrev pub countsOf : List ℕ → Found → Planned → Counts
@@ -95,7 +95,7 @@ module _ {s places index lists′ numbers slots newSizes slotSizes : List ℕ} {
       omega (arith, h .instructions, length-lists-instructions f, instructions-few s (r .few) (r .inOrder))
 
   values-counted : getD places 0 0 ≡ length (f .values)
-  values-counted = place-at s places (h .tables .given) 0 ∙ values-first s in-order
+  values-counted = values-by-table s places (h .tables .given)
 
   pub places-some : 0 < length places
   places-some = let l = places-long s places (h .tables .given) in omega (arith, l)

@@ -1,3 +1,4 @@
 pub mod EdgePlaces
 pub mod FittingCases
+pub mod Noting
 pub mod StandingCases

@@ -1,9 +1,11 @@
-// Refusal 7, but for whether edges fit: blocks that end once, and what an instruction has by its flags.
+// Refusal 7, but for whether edges fit: blocks that end once, and what an instruction has by its flags. The pass that asks
+// for it counts definitions too, for refusal 6.
 ghost use mathlib.Core.Path.{_≡_};
-ghost use mathlib.Core.Bool.{true};
+ghost use mathlib.Core.Bool.{_&&_};
 ghost use Rattle.rules.specs.Records.{records};
-ghost use Rattle.rules.specs.File.{ordered};
+ghost use Rattle.checks.specs.Definitions.{notedAll, Countable};
 ghost use Rattle.soundness.specs.Standing.{safepointFlags, mayStand, flagsBehind, standing};
+use checks::definitions::note_definition;
 use records::in_order::words_at;
 use rules::RECORD_BYTES;
 use rules::Words;
@@ -51,21 +53,35 @@ fn flags_behind(flags: u32, w: Words) -> u32
     }
 }
 
-// Whether every record of a file in order may stand where it does, and a terminator ends the file.
-pub fn all_stand(s: &[u8]) -> bool
-    requires { ⌜ ordered 0 (records (now s)) ≡ true ⌝ }
-    ensures { λ r. ⌜ r ≡ standing 2 (records (now (s .entry))) ⌝ }
+// Whether a record may stand there, and those in front of it may.
+fn still_stands(stands: bool, flags: u32, w: Words) -> bool
+    ensures { λ r. ⌜ r ≡ (stands && mayStand flags w) ⌝ }
+{
+    if stands {
+        return may_stand(flags, w);
+    }
+    false
+}
+
+// Whether every record of a file may stand where it does, and a terminator ends the file. It goes over all of them whatever
+// it finds, and the table then has how often each value is defined.
+pub fn all_stand(s: &[u8], counts: &mut [u32]) -> bool
+    requires { ⌜ Countable (now s) (now counts) ⌝ }
+    ensures { λ r. ⌜ (r ≡ standing 2 (records (now (s .entry)))) × (now (counts .exit) ≡ notedAll (now (counts .entry)) (records (now (s .entry)))) ⌝ }
 {
     let n = s.len() / RECORD_BYTES;
     let mut flags: u32 = 2;
+    let mut stands = true;
     let mut i: usize = 0;
     while i < n {
         let w = words_at(s, i);
-        if !may_stand(flags, w) {
-            return false;
-        }
+        stands = still_stands(stands, flags, w);
         flags = flags_behind(flags, w);
+        note_definition(w, counts);
         i += 1;
     }
-    2 <= flags
+    if stands {
+        return 2 <= flags;
+    }
+    false
 }
