@@ -21,7 +21,7 @@ use Rattle.graph.specs.Sections.{places, sectionsAt, length-sectionsAt}
 use Rattle.graph.specs.Tables.{Given, tagFrom, indexTable, length-indexTable, indexTable-at}
 use Rattle.graph.specs.ByTable.{place-at, end-le, start-less, body-by-table}
 use Rattle.rows.specs.Rows.{rows, rowValues}
-use Rattle.fixpoint.specs.Finding.{update-here, update-again}
+use Rattle.fixpoint.specs.Finding.{update-here}
 use Rattle.blocksets.specs.InRows.{InRows}
 use Rattle.listing.specs.Crossings.{fill, fill-none, crossingsAmong, crossings, crossingsBelow, crossings-more, length-crossings, crossings-reachable, crossings-unreachable, upFrom-more}
 use Rattle.listing.specs.Stepping.{headsFrom, instructionsFrom, BlockRecords}
@@ -159,41 +159,28 @@ module _ {s places index outs : List ℕ} {room : ℕ} (t : ListTables s places 
         ∙ fill-none (instructionsOf (blockAt f b)) first lent)
 
 -- ROWS TOGETHER, one more
-pub together-none : (t : ℕ → NumberSet) (set : NumberSet) → set ≡ union set (together 0 t)
-together-none t set = λ i v. one (set v) i
+pub together-more : (n : ℕ) (t : ℕ → NumberSet) → union (together n t) (t n) ≡ together (n + 1) t
+together-more n t = λ i v. each v i
   where
-    one : (a : Bool) → a ≡ a || false
-    one true = refl
-    one false = refl
+    two : (a b : Bool) → a || b ≡ a || (b || false)
+    two true b = refl
+    two false true = refl
+    two false false = refl
 
-pub together-more :
-    (n : ℕ) (t : ℕ → NumberSet) (set : NumberSet) → union (union set (together n t)) (t n) ≡ union set (together (n + 1) t)
-together-more n t set = λ i v. each v i
-  where
-    three : (a b c : Bool) → (a || b) || c ≡ a || (b || (c || false))
-    three true b c = refl
-    three false true c = refl
-    three false false true = refl
-    three false false false = refl
-
-    each : (v : ℕ) → union (union set (together n t)) (t n) v ≡ union set (together (n + 1) t) v
+    each : (v : ℕ) → union (together n t) (t n) v ≡ together (n + 1) t v
     each v =
         let next : n + 1 ≡ suc n = omega arith in
         let same : 0 + n ≡ n = omega arith in
-        three (set v) (together n t v) (t n v)
-        ∙ ap (λ b. set v || b)
-        (sym (ap (λ (k : ℕ). any (λ i. t i v) (upFrom 0 k)) next
+        two (together n t v) (t n v)
+        ∙ sym (ap (λ (k : ℕ). any (λ i. t i v) (upFrom 0 k)) next
         ∙ ap (any (λ i. t i v)) (upFrom-more 0 n ∙ ap (λ (x : ℕ). upFrom 0 n ++ (x ∷ [])) same)
-        ∙ any-joined (λ i. t i v) (upFrom 0 n) (n ∷ [])))
+        ∙ any-joined (λ i. t i v) (upFrom 0 n) (n ∷ []))
 
 -- a row that gets one row more
 pub joined-more :
-    (n : ℕ) (from lent t u : ℕ → NumberSet) → t ≡ update 0 (union (lent 0) (together n from)) lent → u ≡ update 0 (union (t 0) (from n)) t
-    → u ≡ update 0 (union (lent 0) (together (n + 1) from)) lent
-joined-more n from lent t u here there =
-    let set = union (lent 0) (together n from) in
-    there
-    ∙ ap (λ (z : ℕ → NumberSet). update 0 (union (z 0) (from n)) z) here
-    ∙ ap (λ (z : NumberSet). update 0 (union z (from n)) (update 0 set lent)) (update-here 0 set lent)
-    ∙ update-again 0 set (union set (from n)) lent
-    ∙ ap (λ (z : NumberSet). update 0 z lent) (together-more n from (lent 0))
+    (n : ℕ) (from t u : ℕ → NumberSet) → t 0 ≡ together n from → u ≡ update 0 (union (t 0) (from n)) t → u 0 ≡ together (n + 1) from
+joined-more n from t u here there =
+    ap (λ (z : ℕ → NumberSet). z 0) there
+    ∙ update-here 0 (union (t 0) (from n)) t
+    ∙ ap (λ (z : NumberSet). union z (from n)) here
+    ∙ together-more n from

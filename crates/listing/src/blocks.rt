@@ -106,16 +106,19 @@ fn list_rows(
     }
 }
 
-// The first row gets the values of all rows before row count.
+// The first row gets the values of all rows before row count. They are brought together in a local row, which the machine
+// code keeps in registers: one that is lent would be stored and loaded at each turn.
 fn join_rows(to: &mut [u64], from: &[u64], count: usize)
     requires { ⌜ HasRow (now to) 0 × (rowWords * count ≤ length (now from)) ⌝ }
     ensures { λ _. ⌜ rows (now (to .exit)) ≡ update 0 (union (rows (now (to .entry)) 0) (together count (rows (now (from .entry))))) (rows (now (to .entry))) ⌝ }
 {
+    let mut all = [0u64; ROW_WORDS];
     let mut i: usize = 0;
     while i < count {
-        join(to, 0, from, i);
+        join(&mut all, 0, from, i);
         i += 1;
     }
+    join(to, 0, &all, 0);
 }
 
 // The list of every safepoint of a reachable block, as the row of its number, and the spilled values as one row.
