@@ -17,6 +17,7 @@ use records::in_order::decoded_at;
 use records::in_order::words_at;
 use records::values::is_marked;
 use rows::insert;
+use rows::insert_if;
 use rows::remove;
 use rules::EdgeArgument;
 use rules::Record;
@@ -81,14 +82,12 @@ fn operand_at(s: &[u8], i: usize) -> Operand
     Operand::Neither
 }
 
-// A row gets a value if it is marked.
+// A row gets a value if it is marked. No branch hangs on the mark: values are marked in no order that could be foretold.
 fn insert_marked(s: &[u8], v: u32, t: &mut [u64], row: usize)
     requires { ⌜ InRows (now s) × HasRow (now t) row ⌝ }
     ensures { λ _. ⌜ rows (now (t .exit)) ≡ update row (adding (keep (isMarked (functionIn (now (s .entry)))) (v ∷ [])) (rows (now (t .entry)) row)) (rows (now (t .entry))) ⌝ }
 {
-    if is_marked(s, v) {
-        insert(t, row, wide(v));
-    }
+    insert_if(t, row, wide(v), is_marked(s, v));
 }
 
 // From what is live behind a record to what is live before it.

@@ -1,19 +1,20 @@
 -- A row written word by word, and one word of it changed at a bit.
-use Prim.Native.Nat.{ℕ, _+_, _*_, _/_, _%_, _<_, _≤_}
+use Prim.Native.Nat.{ℕ, _+_, _*_, _/_, _%_, _^_, _<_, _≤_}
 use native.Mathlib.Omega.{arith}
-use mathlib.Core.Path.{_≡_, refl, sym, ap, _∙_}
+use mathlib.Core.Path.{_≡_, refl, sym, ap, subst, _∙_}
 use mathlib.Core.Logic.{_≢_}
-use mathlib.Core.Bool.{Bool, false}
-use mathlib.Core.List.{List}
+use mathlib.Core.Bool.{Bool, true, false, _||_, or-false, cond}
+use mathlib.Core.List.{List, [], _∷_}
+use lib.Bits.{bitOr}
 use lib.ListN.{length, getD, set, length-set}
 use lib.Seq.{getD-set-same, getD-set-other}
 use lib.Dec.{eqb, eqb→eq}
 use borrow.Author.Count.{below-more}
 use borrow.Author.Tests.{ne-eqb}
 use Rattle.rules.specs.Limits.{rowWords}
-use Rattle.rules.specs.Lists.{update, NumberSet}
+use Rattle.rules.specs.Lists.{update, NumberSet, adding}
 use Rattle.lists.specs.Tests.{test-elim, T-ext, eq→eqb, neqb→ne}
-use Rattle.rows.specs.Bits.{bitAt}
+use Rattle.rows.specs.Bits.{bitAt, bit-or, bit-zero, bit-inserted}
 use Rattle.rows.specs.Rows.{rowValues, rows, HasRow, rows-bit, rows-far, rows-ext, rows-changed}
 
 -- THE LOOP over a row. Its first k words are those of the set; all other words are as they were.
@@ -100,3 +101,19 @@ module _ (change : Bool → Bool → Bool) (kept : (b : Bool) → change false b
       word k i l m =
           test-elim (eqb k (v / 64)) (λ h. let q : k ≡ v / 64 = eqb→eq k (v / 64) h in rw q (same i m))
           (λ h. other k i l m (neqb→ne k (v / 64) h))
+
+-- A value is put into a row if that is wanted: the word at its place gets its bit or none.
+pub rows-set-if :
+    (wanted : Bool) (t : List ℕ) (row v only : ℕ) → HasRow t row → (wanted ≡ true → v < rowValues) → only ≡ cond wanted (2 ^ (v % 64)) 0
+    → rows (set t (rowWords * row + v / 64 % rowWords) (bitOr (getD t (rowWords * row + v / 64 % rowWords) 0) only))
+    ≡ update row (adding (cond wanted (v ∷ []) []) (rows t row)) (rows t)
+rows-set-if true t row v only room inside e =
+    let low = inside refl in
+    let same : v / 64 % rowWords ≡ v / 64 = omega arith in
+    rw same (rows-set (λ q b. (q || false) || b) (λ b. refl) t row v _ room low (λ i _. bit-inserted v _ only e i))
+rows-set-if false t row v only room inside e =
+    let first = 64 * (v / 64 % rowWords) in
+    let word : first / 64 ≡ v / 64 % rowWords = omega arith in
+    let word-of-first = rows-set (λ _ b. b) (λ b. refl) t row first (bitOr (getD t (rowWords * row + first / 64) 0) only) room (omega arith)
+    (λ i _. bit-or i _ only ∙ ap (λ b. bitAt (getD t (rowWords * row + first / 64) 0) i || b) (ap (λ w. bitAt w i) e ∙ bit-zero i) ∙ or-false _) in
+    subst (λ (k : ℕ). rows (set t (rowWords * row + k) (bitOr (getD t (rowWords * row + k) 0) only)) ≡ update row (rows t row) (rows t)) word word-of-first

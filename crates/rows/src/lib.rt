@@ -1,7 +1,7 @@
 // Live sets as rows of words: value v at bit v mod 64 of word v / 64 of its row. Every function says what it does to the
 // sets of a whole table, `rows`; that fixes each word of the table, to its end (`rows-same` of specs/Tables.antt).
 ghost use mathlib.Core.Path.{_≡_};
-ghost use mathlib.Core.Bool.{true, false, _&&_, _||_, not};
+ghost use mathlib.Core.Bool.{true, false, _&&_, _||_, not, cond};
 ghost use mathlib.Core.List.{_∷_, []};
 ghost use Prim.Native.Nat.{ℕ, _+_, _*_, _/_, _%_, _^_, _<_, _≤_, min};
 ghost use lib.Dec.{eqb};
@@ -45,6 +45,26 @@ pub fn insert(t: &mut [u64], row: usize, v: usize)
 {
     let i = ROW_WORDS * row + v / WORD_BITS;
     t[i] = t[i] | bit_of(v);
+}
+
+// The word in which only the bit of a value is set, if that is wanted, else none.
+fn bit_if(v: usize, wanted: bool) -> u64
+    ensures { λ r. ⌜ r ≡ cond wanted (2 ^ (v % 64)) 0 ⌝ }
+{
+    if wanted {
+        return bit_of(v);
+    }
+    0
+}
+
+// A row gets a value if that is wanted. A word is stored in any case, so that no branch hangs on what is wanted; so the place of
+// a value that a row has no bit for must be in the row too.
+pub fn insert_if(t: &mut [u64], row: usize, v: usize, wanted: bool)
+    requires { ⌜ HasRow (now t) row × (wanted ≡ true → v < rowValues) ⌝ }
+    ensures { λ _. ⌜ rows (now (t .exit)) ≡ update row (adding (cond wanted (v ∷ []) []) (rows (now (t .entry)) row)) (rows (now (t .entry))) ⌝ }
+{
+    let i = ROW_WORDS * row + v / WORD_BITS % ROW_WORDS;
+    t[i] = t[i] | bit_if(v, wanted);
 }
 
 // A row loses a value.
