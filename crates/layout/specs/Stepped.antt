@@ -1,12 +1,11 @@
 -- FROM INSTRUCTION TO INSTRUCTION: at the places between nothing is written, a block's parameters stand before the first one, and its
 -- landings are those of the edges in its tail.
 use Prim.Native.Nat.{ℕ, zero, suc, _+_, _-_, _<_, _≤_}
-use mathlib.Core.Path.{_≡_, refl, sym, ap, ap₂, subst, _∙_}
+use mathlib.Core.Path.{_≡_, refl, sym, ap, ap₂, _∙_}
 use mathlib.Core.Bool.{not}
 use mathlib.Core.List.{List, [], _∷_, _++_, append-nil}
 use native.Mathlib.Omega.{arith}
 use native.Mathlib.Numerals.{add-one}
-use lib.ListN.{length, take, drop}
 use lib.Dec.{T, eqb, eqb→eq, ltb, ltb→lt, nltb→le}
 use Rattle.rules.specs.Lists.{NumberSet}
 use Rattle.rules.specs.Records.{kind, recordAt, recordCount}
@@ -23,8 +22,8 @@ use Rattle.writing.specs.declared.parts.Part.{Part}
 use Rattle.writing.specs.declared.parts.Part.the-variants as part
 use Rattle.writing.specs.Next.{nextPlace, nextPlace-bounds, nextPlace-found}
 use Rattle.writing.specs.Parts.{partAt}
-use Rattle.writing.specs.Places.{fromTo, fromTo-none, fromTo-more, wrote-turn, passed-before, passed-behind}
-use Rattle.writing.specs.Wrote.{Wrote, wrote-as}
+use Rattle.writing.specs.Places.{fromTo, fromTo-none, fromTo-more, passed-before, passed-behind}
+use Rattle.writing.specs.Steps.{Only, from-first, next-place}
 use Rattle.writing_edges.specs.declared.edges.EdgePart.the-variants as edge
 use Rattle.writing_edges.specs.Edges.{edgePartAt, edge-other}
 use Rattle.writing_instructions.specs.declared.instructions.InstructionRuns.{InstructionRuns}
@@ -36,21 +35,6 @@ use Rattle.layout.specs.BlockRuns.{numberAt, number-more, number-same, i
 pub record InstructionsFrom (s : List ℕ) (from end : ℕ) : Type 0 where
   pub starts : from < end → kind (recordAt s from) ≡ 4
   pub inOrder : (p : ℕ) → from ≤ p → p < end → kind (recordAt s p) ≡ 4 → T (isInstruction (sectionAt s p (nextPlace s 4 (p + 1) end)))
-
--- WHAT IS WRITTEN FOR INSTRUCTIONS ONLY
-module _ (s : List ℕ) (g : ℕ → List Record) (only : (i : ℕ) → (kind (recordAt s i) ≡ 4 → ⊥) → g i ≡ []) (end : ℕ) (m : end ≤ recordCount s) where
-  -- is written from the first one on,
-  pub from-first : (from : ℕ) → from ≤ end → fromTo g from end ≡ fromTo g (nextPlace s 4 from end) end
-  from-first from l =
-      let within = nextPlace-bounds s 4 from end l m in
-      passed-before g from (nextPlace s 4 from end) end (within .0) (within .1) (λ i low high. only i (nextPlace-found s 4 end m from l .1 i low high))
-
-  -- and behind one the next is where it goes on
-  pub up-to-next : (from p : ℕ) → from ≤ p → p < end → fromTo g from (nextPlace s 4 (p + 1) end) ≡ fromTo g from (p + 1)
-  up-to-next from p low l =
-      let after : p + 1 ≤ end = omega arith in
-      let within = nextPlace-bounds s 4 (p + 1) end after m in
-      passed-behind g from (p + 1) (nextPlace s 4 (p + 1) end) (omega arith) (within .0) (λ i u v. only i (nextPlace-found s 4 end m (p + 1) after .1 i u v))
 
 -- the number stays where no instruction starts
 number-stays : (s : List ℕ) (n p q : ℕ) → p + n ≡ q → ((i : ℕ) → p ≤ i → i < q → kind (recordAt s i) ≡ 4 → ⊥) → numberAt s q ≡ numberAt s p
@@ -65,35 +49,15 @@ number-next s p q l m =
     let low = nextPlace-bounds s 4 p q l m .0 in
     number-stays s (nextPlace s 4 p q - p) p (nextPlace s 4 p q) (omega arith) (nextPlace-found s 4 q m p l .1)
 
--- A TURN of a loop from the instruction at place p to the next one
-module _ (s : List ℕ) (end : ℕ) (m : end ≤ recordCount s) (p : ℕ) (l : p < end) (next : ℕ) (there : next ≡ nextPlace s 4 (p + 1) end) where
-  -- where it comes to,
-  pub next-place : (p < next) × (next ≤ end) × (next < end → kind (recordAt s next) ≡ 4)
-  next-place =
-      let after : p + 1 ≤ end = omega arith in
-      let within = nextPlace-bounds s 4 (p + 1) end after m in (
-        omega (arith, within .0, there),
-        omega (arith, within .1, there),
-        subst (λ (n : ℕ). n < end → kind (recordAt s n) ≡ 4) (sym there) (nextPlace-found s 4 end m (p + 1) after .0),
-      )
+-- A TURN of a loop from the instruction at place p to the next one: the number there,
+pub next-number :
+    (s : List ℕ) (end : ℕ) → end ≤ recordCount s → (p : ℕ) → p < end → (next : ℕ) → next ≡ nextPlace s 4 (p + 1) end
+    → kind (recordAt s p) ≡ 4 → (number : ℕ) → number ≡ numberAt s p → number + 1 ≡ numberAt s next
+next-number s end m p l next there four number same =
+    let after : p + 1 ≤ end = omega arith in
+    omega (arith, same, number-more s p four, number-next s (p + 1) end after m, ap (numberAt s) there)
 
-  -- the number there,
-  pub next-number : kind (recordAt s p) ≡ 4 → (number : ℕ) → number ≡ numberAt s p → number + 1 ≡ numberAt s next
-  next-number four number same =
-      let after : p + 1 ≤ end = omega arith in
-      omega (arith, same, number-more s p four, number-next s (p + 1) end after m, ap (numberAt s) there)
-
-  -- and what is written then
-  pub next-turn :
-      (g : ℕ → List Record) → ((i : ℕ) → (kind (recordAt s i) ≡ 4 → ⊥) → g i ≡ []) → (from : ℕ) → from ≤ p
-      → {e : List ℕ} {at : ℕ} {x : List ℕ} {r : ℕ} {y : List ℕ} (rs : List Record) → rs ≡ g p → Wrote e (fromTo g from p) at x → at ≤ length x
-      → Wrote (take (length x - at) (drop at x)) rs r y
-      → Wrote e (fromTo g from next) (at + r) (take at x ++ (y ++ drop (length x - at) (drop at x)))
-  next-turn g only from low rs same w u v =
-      wrote-as (fromTo g from (p + 1)) (fromTo g from next) (sym (ap (fromTo g from) there ∙ up-to-next s g only end m from p low l))
-      (wrote-turn g from p low rs same w u v)
-
--- what it writes itself, by the instruction's runs
+-- and what it writes itself, by the instruction's runs
 pub instruction-turn :
     (s : List ℕ) (end : ℕ) → end ≤ recordCount s → (p : ℕ) → p < end → kind (recordAt s p) ≡ 4 → T (isInstruction (sectionAt s p (nextPlace s 4 (p + 1) end)))
     → (runs : InstructionRuns) → runs ≡ runsOf s p end
@@ -126,7 +90,7 @@ module _ (s numbers slots : List ℕ) (from tail end : ℕ) (m : end ≤ recordC
 
   -- and no edge does,
   no-landing : (q i : ℕ) → from ≤ i → i < tail → landing q i ≡ []
-  no-landing q i l u = edge-other s numbers slots edge.Landing i q (λ e. omega (arith, none i l u, e))
+  no-landing q i l u = edge-other s numbers slots edge.Landing q i (λ e. omega (arith, none i l u, e))
 
   -- so the last instruction's landings are all that there are
   landings-from :
@@ -134,12 +98,12 @@ module _ (s numbers slots : List ℕ) (from tail end : ℕ) (m : end ≤ recordC
   landings-from zero p e l u four = absurd (omega arith)
   landings-from (suc n) p e l u four =
       let next = nextPlace s 4 (p + 1) end in
-      let ahead = next-place s end m p u next refl in
+      let ahead = next-place s 4 end m p u next refl in
       let before = before-tail p l u four in
       fromTo-more landings p end u
       ∙ ap₂ (λ (a b : List Record). a ++ b) (landings-here s numbers slots p end next four refl)
       (ap (λ (i : ℕ). fromTo landings i end) (sym (add-one p))
-      ∙ from-first s landings (λ i other. landings-other s numbers slots i end other) end m (p + 1) (omega arith))
+      ∙ from-first s 4 end m landings (λ i other. landings-other s numbers slots i end other) (p + 1) (omega arith))
       ∙ test-elim (ltb next end)
       (λ t.
       let less = ltb→lt next end t in
@@ -216,14 +180,14 @@ module _ (s numbers slots : List ℕ) (values : ℕ) (sets : ℕ → NumberSet) 
   blockByFirst p front q =
       (headRun s numbers slots p front ++ fromTo (instructionPartAt s numbers slots values sets q) front q) ++ fromTo (landingPartAt s numbers slots q) front q
 
-  pub instructions-only : (q i : ℕ) → (kind (recordAt s i) ≡ 4 → ⊥) → instructionPartAt s numbers slots values sets q i ≡ []
+  pub instructions-only : (q : ℕ) → Only s 4 (instructionPartAt s numbers slots values sets q)
   instructions-only q i other = instruction-other s numbers slots values (sets (numberAt s i)) i q other
 
   pub block-by-first :
       (p front q : ℕ) → BlockRecords s (p + 1) q → front ≡ nextPlace s 4 (p + 1) q → blockRun s numbers slots values sets p q ≡ blockByFirst p front q
   unfolding blockRun
   block-by-first p front q h there =
-      let instructions = from-first s (instructionPartAt s numbers slots values sets q) (instructions-only q) q (h .inside) (p + 1) (h .ascends) in
-      let landings = from-first s (landingPartAt s numbers slots q) (λ i other. landings-other s numbers slots i q other) q (h .inside) (p + 1) (h .ascends) in
+      let instructions = from-first s 4 q (h .inside) (instructionPartAt s numbers slots values sets q) (instructions-only q) (p + 1) (h .ascends) in
+      let landings = from-first s 4 q (h .inside) (landingPartAt s numbers slots q) (λ i other. landings-other s numbers slots i q other) (p + 1) (h .ascends) in
       let same : blockRun s numbers slots values sets p q ≡ blockByFirst p (nextPlace s 4 (p + 1) q) q = λ j. (head-before s numbers slots p q h j ++ instructions j) ++ landings j in
       same ∙ ap (λ (n : ℕ). blockByFirst p n q) (sym there)

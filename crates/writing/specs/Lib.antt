@@ -2,3 +2,4 @@ pub mod Wrote
 pub mod Places
 pub mod Parts
 pub mod Next
+pub mod Steps

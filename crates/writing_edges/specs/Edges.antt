@@ -30,6 +30,7 @@ use Rattle.writing.specs.declared.parts.Part.the-variants as part
 use Rattle.writing.specs.Next.{nextPlace}
 use Rattle.writing.specs.Parts.{slotIn, itemsRecords, partRecords, partAt}
 use Rattle.writing.specs.Places.{fromTo}
+use Rattle.writing.specs.Steps.{Only}
 use Rattle.writing_edges.specs.Zips.{map-concatZip, concatMap-concatZip, map-zipWith}
 use Rattle.writing_edges.specs.ByPlace.{onKind, sectionFrom, zip-by-place, each-by-place}
 
@@ -204,8 +205,8 @@ module _ (s numbers slots : List ℕ) where
       ∙ ap (edgePart a i) (ap (λ (x : ℕ). nextPlace s 7 x q) (sym (add-one i)) ∙ sym n)
 
   -- or another record
-  pub edge-other : (a : EdgePart) (i q : ℕ) → (kind (recordAt s i) ≡ 7 → ⊥) → edgePartAt a q i ≡ []
+  pub edge-other : (a : EdgePart) (q : ℕ) → Only s 7 (edgePartAt a q)
   unfolding edgePartAt
-  edge-other a i q h =
+  edge-other a q i h =
       left-out (eqb (kind (recordAt s i)) 7) (edgePart a i (nextPlace s 7 (suc i) q)) []
       (not-T (eqb (kind (recordAt s i)) 7) (λ t. h (eqb→eq (kind (recordAt s i)) 7 t)))

@@ -9,7 +9,6 @@ ghost use Rattle.writing.specs.Parts.{ofArgument, Readable};
 ghost use Rattle.writing.specs.Places.{fromTo};
 ghost use Rattle.writing.specs.Wrote.{room, Wrote};
 ghost use Rattle.writing_edges.specs.declared.edges.EdgePart.the-variants.{Loads as LoadsOf, Itself as EdgeOf, Landing as LandingOf};
-use records::in_order::kind_at;
 use records::in_order::words_at;
 use rules::Record;
 use writing::parts::Part;
@@ -209,33 +208,6 @@ fn put_edge_part(
     }
 }
 
-// What a part has for the record at a place, if it is an edge, among records that end before place end.
-fn put_edge_at(
-    s: &[u8],
-    numbers: &[u32],
-    slots: &[u32],
-    part: EdgePart,
-    i: usize,
-    end: usize,
-    out: &mut [u8],
-) -> usize
-    requires { ⌜ Readable (now s) (now numbers) × (i < end) × (end ≤ recordCount (now s)) × (room (edgePartAt (now s) (now numbers) (now slots) part end i) ≤ length (now out)) ⌝ }
-    ensures { λ r. ⌜ Wrote (now (out .entry)) (edgePartAt (now (s .entry)) (now (numbers .entry)) (now (slots .entry)) part end i) r (now (out .exit)) ⌝ }
-{
-    if kind_at(s, i) == 7 {
-        return put_edge_part(
-            s,
-            numbers,
-            slots,
-            part,
-            i,
-            next_place(s, 7, i + 1, end),
-            out,
-        );
-    }
-    0
-}
-
 // What a part has for the edges from a place on and before place end.
 pub fn put_edges(
     s: &[u8],
@@ -250,11 +222,12 @@ pub fn put_edges(
     ensures { λ r. ⌜ Wrote (now (out .entry)) (fromTo (edgePartAt (now (s .entry)) (now (numbers .entry)) (now (slots .entry)) part end) from end) r (now (out .exit)) ⌝ }
 {
     let mut at = 0;
-    let mut i = from;
+    let mut i = next_place(s, 7, from, end);
     while i < end {
-        let n = put_edge_at(s, numbers, slots, part, i, end, &mut out[at..]);
+        let next = next_place(s, 7, i + 1, end);
+        let n = put_edge_part(s, numbers, slots, part, i, next, &mut out[at..]);
         at += n;
-        i += 1;
+        i = next;
     }
     at
 }

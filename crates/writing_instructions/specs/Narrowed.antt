@@ -88,7 +88,7 @@ module _ (s numbers slots : List ℕ) where
   part-only k y i = left-out (eqb (kind (recordAt s i)) k) (partRecords (sizeOf (functionIn s)) (slotIn slots) y (encode (recordAt s i)) (madeAt s numbers i)) []
 
   edge-only : (y : EdgePart) (q i : ℕ) → T (not (eqb (kind (recordAt s i)) 7)) → edgePartAt s numbers slots y q i ≡ []
-  edge-only y q i other = edge-other s numbers slots y i q (λ e. subst (λ (n : ℕ). T (not (eqb n 7))) e other)
+  edge-only y q i other = edge-other s numbers slots y q i (λ e. subst (λ (n : ℕ). T (not (eqb n 7))) e other)
 
   module _ (set : NumberSet) (values p q a b : ℕ) (x : Parted s (p + 1) q a b) where
     argument-run : (y : Part) → partsRun s numbers slots 6 y (p + 1) q ≡ partsRun s numbers slots 6 y (p + 1) a

@@ -10,7 +10,8 @@ use Rattle.writing.specs.Wrote.{Wrote, lent-room}
 use Rattle.writing.specs.Places.{fromTo, wrote-start, turn-room}
 use Rattle.writing_instructions.specs.declared.instructions.InstructionRuns.{InstructionRuns}
 use Rattle.writing_instructions.specs.Narrowed.{instructionIn, runs-inside}
-use Rattle.layout.specs.Stepped.{next-place, next-number, next-turn, instruction-turn, instructions-only}
+use Rattle.writing.specs.Steps.{next-place, next-turn}
+use Rattle.layout.specs.Stepped.{next-number, instruction-turn, instructions-only}
 use Rattle.layout.specs.BlockRuns.{numberAt, number-le, number-less, instructionPartAt}
 use Rattle.layout.proofs.blocks.put_instructions.Statement.{statement}
 use Rattle.layout.proofs.blocks.put_instructions.Tie as tie
@@ -94,7 +95,7 @@ loop-less c =
     let inside = c .before .before .before .before .before .loop-test .taken in
     let runs = c .before .before .before .before .instruction-runs in
     let there = ap (λ (r : InstructionRuns). r .end) (runs .ensures) in
-    let ahead = next-place (start .args .s .now) (start .args .end) (start .pre .2) (loop .p) inside (runs .result .end) there in
+    let ahead = next-place (start .args .s .now) 4 (start .args .end) (start .pre .2) (loop .p) inside (runs .result .end) there in
     omega (arith, ahead .0, ahead .1)
 
 loop-again : tie.Need-loop-again Inv-loop μ-loop
@@ -106,10 +107,10 @@ loop-again c =
     let g = instructionPartAt (start .args .s .now) (start .args .numbers .now) (start .args .slots .now) (start .args .values) (rows (start .args .lists .now)) (start .args .end) in
     let fits = turn-room g (start .args .from) (loop .p) (loop .inv .0) (start .args .end) inside (start .pre .6) (loop .inv .3) in
     let there = ap (λ (r : InstructionRuns). r .end) (runs .ensures) in
-    let ahead = next-place (start .args .s .now) (start .args .end) (start .pre .2) (loop .p) inside (runs .result .end) there in
+    let ahead = next-place (start .args .s .now) 4 (start .args .end) (start .pre .2) (loop .p) inside (runs .result .end) there in
     let four = loop .inv .4 inside in
     let turn = instruction-turn (start .args .s .now) (start .args .end) (start .pre .2) (loop .p) inside four (start .pre .7 .inOrder (loop .p) (loop .inv .0) inside four) (runs .result) (runs .ensures) (start .args .numbers .now) (start .args .slots .now) (start .args .values) (rows (start .args .lists .now)) (loop .number) (loop .inv .2) in
-    (omega (arith, ahead .0, loop .inv .0), ahead .1, next-number (start .args .s .now) (start .args .end) (start .pre .2) (loop .p) inside (runs .result .end) there four (loop .number) (loop .inv .2), next-turn (start .args .s .now) (start .args .end) (start .pre .2) (loop .p) inside (runs .result .end) there g (instructions-only (start .args .s .now) (start .args .numbers .now) (start .args .slots .now) (start .args .values) (rows (start .args .lists .now)) (start .args .end)) (start .args .from) (loop .inv .0) (instructionIn (start .args .s .now) (start .args .numbers .now) (start .args .slots .now) (rows (start .args .lists .now) (loop .number)) (start .args .values) (runs .result .place) (runs .result .results) (runs .result .exits) (runs .result .end)) turn (loop .inv .3) (omega arith) (c .before .before .put-instruction .ensures), ahead .2)
+    (omega (arith, ahead .0, loop .inv .0), ahead .1, next-number (start .args .s .now) (start .args .end) (start .pre .2) (loop .p) inside (runs .result .end) there four (loop .number) (loop .inv .2), next-turn (start .args .s .now) 4 (start .args .end) (start .pre .2) (loop .p) inside (runs .result .end) there g (instructions-only (start .args .s .now) (start .args .numbers .now) (start .args .slots .now) (start .args .values) (rows (start .args .lists .now)) (start .args .end)) (start .args .from) (loop .inv .0) (instructionIn (start .args .s .now) (start .args .numbers .now) (start .args .slots .now) (rows (start .args .lists .now) (loop .number)) (start .args .values) (runs .result .place) (runs .result .results) (runs .result .exits) (runs .result .end)) turn (loop .inv .3) (omega arith) (c .before .before .put-instruction .ensures), ahead .2)
 
 same-length : tie.Need-same-length Inv-loop μ-loop
 same-length c = search needs
