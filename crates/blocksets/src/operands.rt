@@ -102,6 +102,14 @@ fn go_before(s: &[u8], x: Operand, t: &mut [u64], row: usize)
     }
 }
 
+// From what is live behind record i to what is live before it.
+pub fn step_back(s: &[u8], i: usize, t: &mut [u64], row: usize)
+    requires { ⌜ InRows (now s) × (i < recordCount (now s)) × HasRow (now t) row ⌝ }
+    ensures { λ _. ⌜ rows (now (t .exit)) ≡ update row (liveBefore (functionIn (now (s .entry))) (operandOf (recordAt (now (s .entry)) i)) (rows (now (t .entry)) row)) (rows (now (t .entry))) ⌝ }
+{
+    go_before(s, operand_at(s, i), t, row);
+}
+
 // From what is live behind some records to what is live before them, the last one first.
 pub fn go_back(s: &[u8], start: usize, end: usize, t: &mut [u64], row: usize)
     requires { ⌜ InRows (now s) × (start ≤ end) × (end ≤ recordCount (now s)) × HasRow (now t) row ⌝ }
@@ -110,7 +118,7 @@ pub fn go_back(s: &[u8], start: usize, end: usize, t: &mut [u64], row: usize)
     let mut i = end;
     while i > start {
         i -= 1;
-        go_before(s, operand_at(s, i), t, row);
+        step_back(s, i, t, row);
     }
 }
 

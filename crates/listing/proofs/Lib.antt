@@ -1,4 +1,2 @@
-pub mod Arguments
-pub mod Instruction
 pub mod Counting
 pub mod Noting

@@ -1,18 +1,20 @@
 -- The walk back over a block's records, instruction by instruction: where it stands, and what the rows are there.
 use Prim.Native.Nat.{ℕ, zero, suc, _+_, _-_, _<_, _≤_}
-use mathlib.Core.Path.{_≡_, sym, ap, ap₂, subst, _∙_}
-use mathlib.Core.Bool.{Bool, true, false, _&&_, cond}
+use mathlib.Core.Path.{_≡_, refl, sym, ap, ap₂, subst, _∙_}
+use mathlib.Core.Bool.{Bool, true, false, not, _&&_, _||_, cond}
+use mathlib.Core.Option.{Option, none, some}
 use mathlib.Core.List.{List, [], _∷_, _++_, map}
 use native.Mathlib.Omega.{arith}
+use native.Mathlib.Numerals.{add-one}
 use lib.ListN.{length}
-use lib.Dec.{T, eqb}
+use lib.Dec.{T, eqb, ltb, eqb→eq, ltb→lt, nltb→le}
 use Rattle.rules.specs.Lists.{all, update, NumberSet}
 use Rattle.rules.specs.Tree.{Instruction, Function}
-use Rattle.rules.specs.Records.{kind, recordAt, recordCount}
-use Rattle.rules.specs.File.{follows, Cut, cut, instructionOf, opensItem, functionIn}
-use Rattle.rules.specs.Liveness.{before, beforeAll}
+use Rattle.rules.specs.Records.{encode, isSafepoint, kind, recordAt, recordCount}
+use Rattle.rules.specs.File.{followers, follows, Cut, cut, instructionOf, opensItem, functionIn}
+use Rattle.rules.specs.Liveness.{across, before, beforeAll}
 use Rattle.rules.specs.declared.Record.{Record}
-use Rattle.lists.specs.Tests.{and-left, and-right, passes-at, eqb-same, is-true}
+use Rattle.lists.specs.Tests.{test-elim, and-left, and-right, passes-at, eqb-same, is-true, is-false}
 use Rattle.lists.specs.Maps.{all-apart, all-and}
 use Rattle.records.specs.Kinds.{Kinds, kinds-weaken}
 use Rattle.records.specs.InOrder.{chain, chained, Sections, whole, opened, cut-opened, cut-chained, cut-kinds}
@@ -20,9 +22,11 @@ use Rattle.records.specs.Parts.{blockBody, inBlock, in-block, isInstruction}
 use Rattle.graph.specs.Between.{between, between-none, between-more, length-between}
 use Rattle.graph.specs.Sections.{agree, placeIf, places, firstOr, sectionsAt, first-bounds, cut-between, places-same}
 use Rattle.fixpoint.specs.Finding.{update-here}
+use Rattle.blocksets.specs.Operands.{operandOf, liveBefore, over-append, back}
+use Rattle.blocksets.specs.Instructions.{back-body}
 use Rattle.listing.specs.declared.blocks.Spot.{Spot}
 use Rattle.listing.specs.Crossings.{put, fill, crossing, crossingsAmong}
-use Rattle.listing.specs.Across.{sectionAt, between-parted}
+use Rattle.listing.specs.Across.{behindArguments, sectionAt, back-across, between-parted}
 
 -- the places of the instructions from place p on and before place end, and those instructions
 abbrev pub headsFrom : List ℕ → ℕ → ℕ → List ℕ
@@ -35,23 +39,37 @@ instructionsFrom s p end = map instructionOf (sectionsAt s end (headsFrom s p en
 abbrev pub opens : List ℕ → ℕ → Bool
 opens s p = eqb (kind (recordAt s p)) 4
 
-abbrev pub spot : ℕ → ℕ → Spot
-spot end number = record { end = end; number = number }
+-- an argument stands there
+abbrev pub argues : List ℕ → ℕ → Bool
+argues s p = eqb (kind (recordAt s p)) 6
 
--- WHAT ONE RECORD DOES: to where the walk stands, to what is live, and to the lists
+abbrev pub spot : ℕ → ℕ → Spot
+spot middle number = record { middle = middle; number = number }
+
+-- WHAT ONE RECORD DOES, by whether it is an argument or opens an instruction: to where the walk stands, to what is live, and
+-- to the lists. An argument waits for its instruction, since the list is taken behind the arguments.
+abbrev pub spotBy : Bool → Bool → ℕ → Spot → Spot
+spotBy a o p at = cond a at (cond o (spot p (at .number - 1)) (spot p (at .number)))
+
+abbrev pub liveBy : Bool → Bool → List ℕ → ℕ → Spot → (ℕ → NumberSet) → ℕ → NumberSet
+liveBy a o s p at live =
+    cond a live
+    (cond o (update 0 (back (functionIn s) (between s (p + 1) (at .middle)) (live 0)) live)
+    (update 0 (liveBefore (functionIn s) (operandOf (recordAt s p)) (live 0)) live))
+
+abbrev pub listsBy : Bool → Bool → List ℕ → ℕ → Spot → (ℕ → NumberSet) → (ℕ → NumberSet) → ℕ → NumberSet
+listsBy a o s p at live lists =
+    cond a lists
+    (cond o (put (at .number - 1) (cond (isSafepoint (encode (recordAt s p) .second)) (some (live 0)) none) lists) lists)
+
 abbrev pub spotAt : List ℕ → ℕ → Spot → Spot
-spotAt s p at = cond (opens s p) (spot p (at .number - 1)) at
+spotAt s p = spotBy (argues s p) (opens s p) p
 
 abbrev pub liveAt : List ℕ → ℕ → Spot → (ℕ → NumberSet) → ℕ → NumberSet
-liveAt s p at live = cond (opens s p) (update 0 (before (functionIn s) (instructionOf (sectionAt s p (at .end))) (live 0)) live) live
+liveAt s p = liveBy (argues s p) (opens s p) s p
 
 abbrev pub listsAt : List ℕ → ℕ → Spot → (ℕ → NumberSet) → (ℕ → NumberSet) → ℕ → NumberSet
-listsAt s p at live lists =
-    cond (opens s p) (put (at .number - 1) (crossing (functionIn s) (instructionOf (sectionAt s p (at .end))) (live 0)) lists) lists
-
--- an instruction that starts here has a number, and its records are an instruction's
-abbrev pub Opened : List ℕ → ℕ → Spot → Type 0
-Opened s p at = T (opens s p) → (0 < at .number) × T (isInstruction (sectionAt s p (at .end)))
+listsAt s p = listsBy (argues s p) (opens s p) s p
 
 -- the records of a block behind its own
 pub record BlockRecords (s : List ℕ) (start end : ℕ) : Type 0 where
@@ -123,21 +141,59 @@ module _ (s : List ℕ) (end : ℕ) (k : end ≤ recordCount s) where
         and-left (isInstruction (sectionAt s p (firstOr end (headsFrom s (suc p) end)))) (all isInstruction (sectionsAt s end (headsFrom s (suc p) end)))
         (subst (λ (ps : List ℕ). Sections isInstruction (sectionsAt s end ps)) (heads-here p m o) (sections-from p l (omega arith)))
 
-    -- so it has what it is asked for there, if enough numbers are left
-    pub opened-at :
-        (p : ℕ) (at : Spot) (behind : ℕ) → start ≤ p → p < end → at .end ≡ firstOr end (headsFrom s (suc p) end)
-        → at .number + length (headsFrom s (suc p) end) ≡ behind → length (headsFrom s start end) ≤ behind → Opened s p at
-    opened-at p at behind l m place number room o = (
-      omega (arith, ap length (heads-here p m o), heads-fewer start p l (omega arith)),
-      subst (λ (q : ℕ). T (isInstruction (sectionAt s p q))) (sym place) (instruction-at p l m o),
-    )
+    -- it has a number, if enough are left
+    pub numbered-at :
+        (p number behind : ℕ) → start ≤ p → p < end → number + length (headsFrom s (suc p) end) ≡ behind → length (headsFrom s start end) ≤ behind
+        → T (opens s p) → 0 < number
+    numbered-at p number behind l m counted room o = omega (arith, ap length (heads-here p m o), heads-fewer start p l (omega arith))
 
--- HOW FAR IT HAS COME, at place p: what is live there, and the lists of the instructions from there on.
-pub record Reached (s : List ℕ) (end behind : ℕ) (out : NumberSet) (lent : ℕ → NumberSet) (p : ℕ) (at : Spot) (live lists : ℕ → NumberSet) : Type 0 where
-  pub place : at .end ≡ firstOr end (headsFrom s p end)
-  pub number : at .number + length (headsFrom s p end) ≡ behind
-  pub liveHere : live 0 ≡ beforeAll (functionIn s) (instructionsFrom s p end) out
-  pub listsHere : lists ≡ fill (at .number) (crossingsAmong (functionIn s) (instructionsFrom s p end) out) lent
+    -- only behind an instruction or an argument an argument stands
+    unargued : (p q : ℕ) → start ≤ p → p < q → q ≤ end → argues s p ≡ false → opens s p ≡ false → between s (suc p) q ≡ behindArguments (between s (suc p) q)
+    unfolding followers follows
+    unargued p q l m n a o =
+        test-elim (ltb (suc p) q) (λ t. behind (ltb→lt (suc p) q t))
+        (λ t. let same : suc p ≡ q = omega (arith, nltb→le (suc p) q t) in rw (same, between-none s q) refl)
+      where
+        here : T (chain (kind (recordAt s p)) (between s (suc p) end)) × T (inBlock (kind (recordAt s p)))
+        here =
+            let rs = between s p end in
+            let parted = between-parted s (p - start) start p end (omega arith) (omega arith) k in
+            let more = between-more s p end (omega arith) k in
+            let order = chain-behind 2 (between s start p) rs (subst (λ (x : List Record). T (chain 2 x)) parted (h .body .0)) in
+            let kinds = all-apart (λ r. inBlock (kind r)) (between s start p) rs (subst (Kinds inBlock) parted (in-block (between s start end) (h .body))) .1 in (
+              and-right (follows (order .0) (kind (recordAt s p))) (chain (kind (recordAt s p)) (between s (suc p) end)) (subst (λ (x : List Record). T (chain (order .0) x)) more (order .1)),
+              and-left (inBlock (kind (recordAt s p))) (all (λ r. inBlock (kind r)) (between s (suc p) end)) (subst (Kinds inBlock) more kinds),
+            )
+
+        behind : suc p < q → between s (suc p) q ≡ behindArguments (between s (suc p) q)
+        behind less =
+            let next = kind (recordAt s (suc p)) in
+            let later = between s (suc (suc p)) q in
+            let follow : T (follows (kind (recordAt s p)) next) =
+            and-left (follows (kind (recordAt s p)) next) (chain next (between s (suc (suc p)) end))
+            (subst (λ (x : List Record). T (chain (kind (recordAt s p)) x)) (between-more s (suc p) end (omega arith) k) (here .0)) in
+            let other : eqb next 6 ≡ false =
+            test-elim {C = eqb next 6 ≡ false} (eqb next 6)
+            (λ t.
+            let six : next ≡ 6 = eqb→eq next 6 t in
+            let j = kind (recordAt s p) in
+            let either = passes-at (λ j. not (follows j 6) || (eqb j 6 || eqb j 4)) (3 ∷ 4 ∷ 5 ∷ 6 ∷ 7 ∷ 8 ∷ 9 ∷ []) tt j (here .1) in
+            absurd (rw (ap (follows j) (sym six), is-true (follows j next) follow, a, o) at either))
+            (λ t. is-false (eqb next 6) t) in
+            between-more s (suc p) q less (omega arith) ∙ sym (ap behindArguments (between-more s (suc p) q less (omega arith)) ∙ ap (λ b. cond b (behindArguments later) (recordAt s (suc p) ∷ later)) other)
+
+-- HOW FAR IT HAS COME, at place p, where the instructions from there on start at some places: what is live there but for the
+-- arguments that wait, and the lists of those instructions.
+pub record ReachedBy (s : List ℕ) (end behind : ℕ) (out : NumberSet) (lent : ℕ → NumberSet) (ps : List ℕ) (p : ℕ) (at : Spot) (live lists : ℕ → NumberSet) : Type 0 where
+  pub low : p ≤ at .middle
+  pub high : at .middle ≤ firstOr end ps
+  pub waiting : between s (at .middle) (firstOr end ps) ≡ behindArguments (between s p (firstOr end ps))
+  pub number : at .number + length ps ≡ behind
+  pub liveHere : live 0 ≡ back (functionIn s) (between s (at .middle) (firstOr end ps)) (beforeAll (functionIn s) (map instructionOf (sectionsAt s end ps)) out)
+  pub listsHere : lists ≡ fill (at .number) (crossingsAmong (functionIn s) (map instructionOf (sectionsAt s end ps)) out) lent
+
+abbrev pub Reached : List ℕ → ℕ → ℕ → NumberSet → (ℕ → NumberSet) → ℕ → Spot → (ℕ → NumberSet) → (ℕ → NumberSet) → Type 0
+Reached s end behind out lent p at live lists = ReachedBy s end behind out lent (headsFrom s p end) p at live lists
 
 module _ (s : List ℕ) (end behind : ℕ) (out : NumberSet) (lent : ℕ → NumberSet) where
   abbrev f : Function
@@ -146,76 +202,140 @@ module _ (s : List ℕ) (end behind : ℕ) (out : NumberSet) (lent : ℕ → Num
   pub reached-start : (live : ℕ → NumberSet) → live 0 ≡ out → Reached s end behind out lent end (spot end behind) live lent
   reached-start live e =
       let none : headsFrom s end end ≡ [] = ap (places (eqb 4) end) (between-none s end) in
-      record {
-        place = sym (ap (firstOr end) none);
-        number = omega (arith, ap length none);
-        liveHere = e ∙ sym (ap (λ (ps : List ℕ). beforeAll f (map instructionOf (sectionsAt s end ps)) out) none);
-        listsHere = sym (ap (λ (ps : List ℕ). fill behind (crossingsAmong f (map instructionOf (sectionsAt s end ps)) out) lent) none);
-      }
+      subst (λ (ps : List ℕ). ReachedBy s end behind out lent ps end (spot end behind) live lent) (sym none)
+      (record {
+        low = omega arith;
+        high = omega arith;
+        waiting = rw (between-none s end) refl;
+        number = omega arith;
+        liveHere = e ∙ sym (ap (λ (rs : List Record). back f rs out) (between-none s end));
+        listsHere = refl;
+      })
 
-  -- one record further back
-  pub reached-more :
-      end ≤ recordCount s → (p : ℕ) → p < end → (at : Spot) → Opened s p at → (live lists : ℕ → NumberSet) → Reached s end behind out lent (suc p) at live lists
-      → Reached s end behind out lent p (spotAt s p at) (liveAt s p at live) (listsAt s p at live lists)
-  reached-more k p l at o live lists h = go (opens s p) (heads-more s end k p l) o
-    where
-      ps : List ℕ
-      ps = headsFrom s (suc p) end
+  -- ONE RECORD FURTHER BACK
+  module _ (k : end ≤ recordCount s) (p : ℕ) (at : Spot) (live lists : ℕ → NumberSet) (ps : List ℕ) (m : firstOr end ps ≤ end)
+      (r : ReachedBy s end behind out lent ps (suc p) at live lists) where
+    abbrev q : ℕ
+    q = firstOr end ps
 
-      is : List ℕ → List Instruction
-      is qs = map instructionOf (sectionsAt s end qs)
+    abbrev behindIt : NumberSet
+    behindIt = beforeAll f (map instructionOf (sectionsAt s end ps)) out
 
-      i : Instruction
-      i = instructionOf (sectionAt s p (at .end))
+    here : between s p q ≡ recordAt s p ∷ between s (suc p) q
+    here = between-more s p q (omega (arith, r .low, r .high)) (omega (arith, k))
 
-      go : (b : Bool) → headsFrom s p end ≡ placeIf b p ps → (T b → (0 < at .number) × T (isInstruction (sectionAt s p (at .end))))
-          → Reached s end behind out lent p (cond b (spot p (at .number - 1)) at) (cond b (update 0 (before f i (live 0)) live) live)
-          (cond b (put (at .number - 1) (crossing f i (live 0)) lists) lists)
-      go false e o =
-          record {
-            place = h .place ∙ sym (ap (firstOr end) e);
-            number = omega (arith, h .number, ap length e);
-            liveHere = h .liveHere ∙ sym (ap (λ (qs : List ℕ). beforeAll f (is qs) out) e);
-            listsHere = h .listsHere ∙ sym (ap (λ (qs : List ℕ). fill (at .number) (crossingsAmong f (is qs) out) lent) e);
-          }
-      go true e o =
-          let next : suc (at .number - 1) ≡ at .number = omega (arith, o tt .0) in
-          let same : i ≡ instructionOf (sectionAt s p (firstOr end ps)) = ap (λ (q : ℕ). instructionOf (sectionAt s p q)) (h .place) in
-          record {
-            place = sym (ap (firstOr end) e);
-            number = omega (arith, h .number, ap length e, o tt .0);
-            liveHere =
-                update-here 0 (before f i (live 0)) live
-                ∙ ap₂ (λ (x : Instruction) (y : NumberSet). before f x y) same (h .liveHere)
-                ∙ sym (ap (λ (qs : List ℕ). beforeAll f (is qs) out) e);
-            listsHere =
-                ap₂ (λ (x : Instruction) (y : NumberSet). put (at .number - 1) (crossing f x y) lists) same (h .liveHere)
-                ∙ ap (put (at .number - 1) (crossing f (instructionOf (sectionAt s p (firstOr end ps))) (beforeAll f (is ps) out)))
-                (h .listsHere ∙ ap (λ (n : ℕ). fill n (crossingsAmong f (is ps) out) lent) (sym next))
-                ∙ sym (ap (λ (qs : List ℕ). fill (at .number - 1) (crossingsAmong f (is qs) out) lent) e);
-          }
+    front : (b : Bool) → argues s p ≡ b → behindArguments (between s p q) ≡ cond b (behindArguments (between s (suc p) q)) (recordAt s p ∷ between s (suc p) q)
+    front b e = ap behindArguments here ∙ ap (λ (c : Bool). cond c (behindArguments (between s (suc p) q)) (recordAt s p ∷ between s (suc p) q)) e
 
-  -- the same by the code's difference, and for what its step gives
-  pub reached-back :
-      end ≤ recordCount s → (p : ℕ) → 0 < p → p ≤ end → (at next : Spot) → Opened s (p - 1) at
-      → (live lists live′ lists′ : ℕ → NumberSet) → Reached s end behind out lent p at live lists → next ≡ spotAt s (p - 1) at
-      → live′ ≡ liveAt s (p - 1) at live → lists′ ≡ listsAt s (p - 1) at live lists
-      → Reached s end behind out lent (p - 1) next live′ lists′
-  reached-back k p l m at next o live lists live′ lists′ h e₁ e₂ e₃ =
-      let same : p ≡ suc (p - 1) = omega arith in
-      let step =
-      reached-more k (p - 1) (omega arith) at o live lists (subst (λ (q : ℕ). Reached s end behind out lent q at live lists) same h) in
-      subst (λ (z : Spot). Reached s end behind out lent (p - 1) z live′ lists′) (sym e₁)
-      (subst (λ (z : ℕ → NumberSet). Reached s end behind out lent (p - 1) (spotAt s (p - 1) at) z lists′) (sym e₂)
-      (subst (λ (z : ℕ → NumberSet). Reached s end behind out lent (p - 1) (spotAt s (p - 1) at) (liveAt s (p - 1) at live) z) (sym e₃) step))
+    -- an argument waits,
+    reached-argument : argues s p ≡ true → ReachedBy s end behind out lent ps p at live lists
+    reached-argument e =
+        record {
+          low = omega (arith, r .low);
+          high = r .high;
+          waiting = r .waiting ∙ sym (front true e);
+          number = r .number;
+          liveHere = r .liveHere;
+          listsHere = r .listsHere;
+        }
 
--- so the next record may be looked at
-pub opened-before :
-    (s : List ℕ) (start end behind : ℕ) (out : NumberSet) (lent : ℕ → NumberSet) (p : ℕ) (at : Spot) (live lists : ℕ → NumberSet)
-    → BlockRecords s start end → start < p → p ≤ end → length (headsFrom s start end) ≤ behind
-    → Reached s end behind out lent p at live lists → Opened s (p - 1) at
-opened-before s start end behind out lent p at live lists h l m room r =
-    let same : p ≡ suc (p - 1) = omega arith in
-    opened-at s end (h .inside) start h (p - 1) at behind (omega arith) (omega arith)
-    (r .place ∙ ap (λ (q : ℕ). firstOr end (headsFrom s q end)) same)
-    (ap (λ (q : ℕ). at .number + length (headsFrom s q end)) (sym same) ∙ r .number) room
+    -- another record that none waits behind does what it does,
+    reached-other :
+        argues s p ≡ false → between s (suc p) q ≡ behindArguments (between s (suc p) q)
+        → ReachedBy s end behind out lent ps p (spot p (at .number)) (update 0 (liveBefore f (operandOf (recordAt s p)) (live 0)) live) lists
+    reached-other e alone =
+        record {
+          low = omega arith;
+          high = omega (arith, r .low, r .high);
+          waiting = here ∙ sym (front false e);
+          number = r .number;
+          liveHere =
+              update-here 0 (liveBefore f (operandOf (recordAt s p)) (live 0)) live
+              ∙ ap (liveBefore f (operandOf (recordAt s p))) (r .liveHere ∙ ap (λ (rs : List Record). back f rs behindIt) (r .waiting ∙ sym alone))
+              ∙ sym (ap (λ (rs : List Record). back f rs behindIt) here);
+          listsHere = r .listsHere;
+        }
+
+    -- and an instruction has its list, and then its arguments
+    reached-instruction :
+        0 < at .number → T (isInstruction (sectionAt s p q))
+        → ReachedBy s end behind out lent (p ∷ ps) p (spot p (at .number - 1)) (update 0 (back f (between s (p + 1) (at .middle)) (live 0)) live)
+        (put (at .number - 1) (cond (isSafepoint (encode (recordAt s p) .second)) (some (live 0)) none) lists)
+    reached-instruction numbered h =
+        let i = instructionOf (sectionAt s p q) in
+        let crossed : live 0 ≡ across f i behindIt = r .liveHere ∙ ap (λ (rs : List Record). back f rs behindIt) (r .waiting) ∙ back-across f (sectionAt s p q) h behindIt in
+        let next : suc (at .number - 1) ≡ at .number = omega arith in
+        let low = r .low in
+        record {
+          low = omega arith;
+          high = omega arith;
+          waiting = rw (between-none s p) refl;
+          number = omega (arith, r .number);
+          liveHere =
+              update-here 0 (back f (between s (p + 1) (at .middle)) (live 0)) live
+              ∙ ap₂ (λ (n : ℕ) (x : NumberSet). back f (between s n (at .middle)) x) (add-one p) (r .liveHere)
+              ∙ sym (over-append (liveBefore f) (between s (suc p) (at .middle)) (between s (at .middle) q) behindIt)
+              ∙ ap (λ (rs : List Record). back f rs behindIt) (sym (between-parted s (at .middle - suc p) (suc p) (at .middle) q (omega arith) (r .high) (omega (arith, k))))
+              ∙ back-body f (sectionAt s p q) h behindIt
+              ∙ sym (ap (λ (rs : List Record). back f rs (before f i behindIt)) (between-none s p));
+          listsHere =
+              ap (λ (x : NumberSet). put (at .number - 1) (cond {A = Option NumberSet} (i .safepoint) (some x) none) lists) crossed
+              ∙ ap (put (at .number - 1) (crossing f i behindIt)) (r .listsHere ∙ ap (λ (n : ℕ). fill n (crossingsAmong f (map instructionOf (sectionsAt s end ps)) out) lent) (sym next));
+        }
+
+  module _ (start : ℕ) (h : BlockRecords s start end) (room : length (headsFrom s start end) ≤ behind) where
+    reached-more :
+        (p : ℕ) → start ≤ p → p < end → (at : Spot) (live lists : ℕ → NumberSet) → Reached s end behind out lent (suc p) at live lists
+        → Reached s end behind out lent p (spotAt s p at) (liveAt s p at live) (listsAt s p at live lists)
+    reached-more p l m at live lists r = go (argues s p) (opens s p) refl refl
+      where
+        ps : List ℕ
+        ps = headsFrom s (suc p) end
+
+        bounds : (suc p ≤ firstOr end ps) × (firstOr end ps ≤ end)
+        bounds = heads-bounds s end (h .inside) (suc p) (omega arith)
+
+        same : (b : Bool) → opens s p ≡ b → headsFrom s p end ≡ placeIf b p ps
+        same b e = heads-more s end (h .inside) p m ∙ ap (λ (o : Bool). placeIf o p ps) e
+
+        at-heads :
+            (b : Bool) → opens s p ≡ b → (z : Spot) (live′ lists′ : ℕ → NumberSet) → ReachedBy s end behind out lent (placeIf b p ps) p z live′ lists′
+            → Reached s end behind out lent p z live′ lists′
+        at-heads b e z live′ lists′ = subst (λ (qs : List ℕ). ReachedBy s end behind out lent qs p z live′ lists′) (sym (same b e))
+
+        go : (a b : Bool) → argues s p ≡ a → opens s p ≡ b
+            → Reached s end behind out lent p (spotBy a b p at) (liveBy a b s p at live) (listsBy a b s p at live lists)
+        go true true a b = absurd (omega (arith, eqb→eq (kind (recordAt s p)) 6 (rw a tt), eqb→eq (kind (recordAt s p)) 4 (rw b tt)))
+        go true false a b = at-heads false b at live lists (reached-argument (h .inside) p at live lists ps (bounds .1) r a)
+        go false true a b =
+            at-heads true b _ _ _
+            (reached-instruction (h .inside) p at live lists ps (bounds .1) r
+            (numbered-at s end (h .inside) start h p (at .number) behind l m (r .number) room (rw b tt))
+            (instruction-at s end (h .inside) start h p l m (rw b tt)))
+        go false false a b =
+            at-heads false b _ _ _
+            (reached-other (h .inside) p at live lists ps (bounds .1) r a (unargued s end (h .inside) start h p (firstOr end ps) l (bounds .0) (bounds .1) a b))
+
+    module _ (p : ℕ) (l : start < p) (m : p ≤ end) (at : Spot) (live lists : ℕ → NumberSet) (r : Reached s end behind out lent p at live lists) where
+      -- the same by the code's difference: what the next record asks for,
+      pub asked-before : (p - 1 < at .middle) × (at .middle ≤ recordCount s) × (T (opens s (p - 1)) → 0 < at .number)
+      asked-before =
+          let same : p ≡ suc (p - 1) = omega arith in
+          let bounds = heads-bounds s end (h .inside) p m in (
+            omega (arith, r .low),
+            omega (arith, r .high, bounds .1, h .inside),
+            numbered-at s end (h .inside) start h (p - 1) (at .number) behind (omega arith) (omega arith)
+                (ap (λ (n : ℕ). at .number + length (headsFrom s n end)) (sym same) ∙ r .number) room,
+          )
+
+      -- and what its step gives
+      pub reached-back :
+          (next : Spot) (live′ lists′ : ℕ → NumberSet) → next ≡ spotAt s (p - 1) at → live′ ≡ liveAt s (p - 1) at live
+          → lists′ ≡ listsAt s (p - 1) at live lists → Reached s end behind out lent (p - 1) next live′ lists′
+      reached-back next live′ lists′ e₁ e₂ e₃ =
+          let same : p ≡ suc (p - 1) = omega arith in
+          let step =
+          reached-more (p - 1) (omega arith) (omega arith) at live lists (subst (λ (n : ℕ). Reached s end behind out lent n at live lists) same r) in
+          subst (λ (z : Spot). Reached s end behind out lent (p - 1) z live′ lists′) (sym e₁)
+          (subst (λ (z : ℕ → NumberSet). Reached s end behind out lent (p - 1) (spotAt s (p - 1) at) z lists′) (sym e₂)
+          (subst (λ (z : ℕ → NumberSet). Reached s end behind out lent (p - 1) (spotAt s (p - 1) at) (liveAt s (p - 1) at live) z) (sym e₃) step))

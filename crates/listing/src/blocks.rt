@@ -2,6 +2,7 @@
 ghost use mathlib.Core.Path.{_≡_};
 ghost use Prim.Native.Nat.{_-_, _*_, _<_, _≤_};
 ghost use lib.ListN.{length, getD};
+ghost use lib.Dec.{T};
 ghost use Rattle.rules.specs.Limits.{rowWords};
 ghost use Rattle.rules.specs.Records.{recordCount};
 ghost use Rattle.rules.specs.File.{functionIn};
@@ -14,30 +15,45 @@ ghost use Rattle.listing.specs.Crossings.{fill, crossingsAmong, crossing
 ghost use Rattle.listing.specs.Firsts.{Firsts};
 ghost use Rattle.listing.specs.Listed.{together};
 ghost use Rattle.listing.specs.Tables.{ListTables};
-ghost use Rattle.listing.specs.Stepping.{headsFrom, instructionsFrom, spotAt, liveAt, listsAt, Opened, BlockRecords};
-use crate::instructions::list_instruction;
+ghost use Rattle.listing.specs.Stepping.{headsFrom, instructionsFrom, opens, spotAt, liveAt, listsAt, BlockRecords};
+use crate::instructions::list_live;
+use blocksets::operands::go_back;
+use blocksets::operands::step_back;
 use records::in_order::kind_at;
 use rows::copy_row;
 use rows::join;
 use rules::ROW_WORDS;
 
-// How far the walk back over a block has come: where the next instruction ends, and one more than its number.
+// How far the walk back over a block has come: where the arguments that wait for their instruction end, and one more than
+// its number.
 struct Spot {
-    end: usize,
+    middle: usize,
     number: usize,
 }
 
-// One record further back: nothing, but where an instruction starts its list, and what is live before it.
+// One record further back. An argument waits: the list of its instruction is what is live behind the arguments.
 fn list_at(s: &[u8], p: usize, at: Spot, live: &mut [u64], lists: &mut [u64]) -> Spot
-    requires { ⌜ InRows (now s) × (p < at .end) × (at .end ≤ recordCount (now s)) × Opened (now s) p at × HasRow (now live) 0 × (rowWords * at .number ≤ length (now lists)) ⌝ }
+    requires { ⌜ InRows (now s) × (p < at .middle) × (at .middle ≤ recordCount (now s)) × (T (opens (now s) p) → 0 < at .number) × HasRow (now live) 0 × (rowWords * at .number ≤ length (now lists)) ⌝ }
     ensures { λ r. ⌜ (r ≡ spotAt (now (s .entry)) p at) × (rows (now (live .exit)) ≡ liveAt (now (s .entry)) p at (rows (now (live .entry)))) × (rows (now (lists .exit)) ≡ listsAt (now (s .entry)) p at (rows (now (live .entry))) (rows (now (lists .entry)))) ⌝ }
 {
-    if kind_at(s, p) == 4 {
-        let i = at.number - 1;
-        list_instruction(s, p, at.end, live, lists, i);
-        return Spot { end: p, number: i };
+    let kind = kind_at(s, p);
+    if kind == 6 {
+        return at;
     }
-    at
+    if kind == 4 {
+        let i = at.number - 1;
+        list_live(s, p, live, lists, i);
+        go_back(s, p + 1, at.middle, live, 0);
+        return Spot {
+            middle: p,
+            number: i,
+        };
+    }
+    step_back(s, p, live, 0);
+    Spot {
+        middle: p,
+        number: at.number,
+    }
 }
 
 // The lists of a block's instructions, whose live-out is a row; the number behind its last one is given.
@@ -56,7 +72,7 @@ fn list_block(
     let mut live = [0u64; ROW_WORDS];
     copy_row(&mut live, 0, outs, b);
     let mut at = Spot {
-        end,
+        middle: end,
         number: behind,
     };
     let mut p = end;

@@ -19,7 +19,7 @@ use Rattle.records.specs.Parts.{isInstruction}
 use Rattle.graph.specs.Between.{between, between-none, between-more, length-between}
 use Rattle.graph.specs.Sections.{placeIf, places, firstOr, first-bounds}
 use Rattle.listing.specs.Across.{sectionAt}
-use Rattle.listing.specs.Stepping.{headsFrom, spot, BlockRecords, heads-more, heads-fewer, opened-at}
+use Rattle.listing.specs.Stepping.{headsFrom, BlockRecords, heads-more, heads-fewer, instruction-at}
 use Rattle.rows.specs.Rows.{rows, HasRow}
 use Rattle.numbering.specs.Beside.{instructionPlanAt, instructionPlansAt}
 use Rattle.planning.specs.Standing.{Tables, planOf, Good, Kept}
@@ -208,8 +208,8 @@ module _ (s lists : List ℕ) (spilled : NumberSet) (start front end behind : �
           let low = last .low in
           let within = inFile in
           let shape =
-          opened-at s end inFile start (x .block) place (spot i (length (headsFrom s start end))) (length (headsFrom s start end) + length (headsFrom s (suc place) end))
-          (omega (arith, x .low)) (omega arith) (h .stands ∙ ap (firstOr end) (sym none-between)) refl (omega arith) (eq→eqb (last .head)) .1 in
+          subst (λ (q : ℕ). T (isInstruction (sectionAt s place q))) (sym (h .stands ∙ ap (firstOr end) (sym none-between)))
+          (instruction-at s end inFile start (x .block) place (omega (arith, x .low)) (omega arith) (eq→eqb (last .head))) in
           let parts : end - front ≡ (end - i) + (i - front) = omega arith in (
             omega (arith, x .inLists, h .counted, back-number),
             record { inside = near; inFile = omega arith; shape = shape; edges = x .edges place i near (omega arith) shape },

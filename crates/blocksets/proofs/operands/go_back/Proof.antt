@@ -1,16 +1,14 @@
 -- `blocksets::operands::go_back` meets its contract.
+use borrow.Author.Needs.{needs}
+use native.Mathlib.Omega.{arith}
 use Prim.Native.Nat.{_≤_, _-_}
 use mathlib.Core.Path.{_≡_, refl, _∙_, ap}
 use lib.ListN.{length}
-use native.Mathlib.Omega.{arith}
-use Rattle.lists.specs.Tests.{is-true}
-use Rattle.rules.specs.Records.{records}
-use Rattle.rules.specs.File.{functionIn, ordered}
 use Rattle.rows.specs.Rows.{rows}
-use Rattle.blocksets.specs.Operands.{liveBefore}
-use Rattle.blocksets.specs.InRows.{record-in-row}
+use Rattle.rules.specs.Records.{recordAt}
+use Rattle.rules.specs.File.{functionIn}
 use Rattle.blocksets.proofs.Back.{backTo, backTo-end, backTo-more}
-use borrow.Author.Needs.{needs}
+use Rattle.blocksets.specs.Operands.{operandOf, liveBefore}
 use Rattle.blocksets.proofs.operands.go_back.Statement.{statement}
 use Rattle.blocksets.proofs.operands.go_back.Tie as tie
 
@@ -26,24 +24,20 @@ loop-holds c = (c .before .before .pre .1, omega arith, refl, backTo-end (liveBe
 sub-i : tie.Need-sub-i Inv-loop μ-loop
 sub-i c = omega arith
 
-operand-at-requires : tie.Need-operand-at-requires Inv-loop μ-loop
-operand-at-requires c κs = (omega (arith, c .before .before .before .before .pre .2), is-true (ordered 0 (records (c .before .before .before .before .args .s .now))) (c .before .before .before .before .pre .0 .inOrder))
-
-go-before-requires : tie.Need-go-before-requires Inv-loop μ-loop
-go-before-requires c κs =
-    (c .before .before .before .before .before .before .pre .0, rw (c .before .operand-at .ensures) (record-in-row (c .before .before .before .before .before .before .args .s .now) (c .before .before .before .before .before .before .pre .0) (c .before .before .before .loop .i - 1) (omega (arith, c .before .before .before .before .before .before .pre .2))), omega (arith, c .before .before .before .loop .inv .2, c .before .before .before .before .before .before .pre .3))
+step-back-requires : tie.Need-step-back-requires Inv-loop μ-loop
+step-back-requires c κs = (c .before .before .before .before .before .pre .0, omega (arith, c .before .before .before .before .before .pre .2), omega (arith, c .before .before .loop .inv .2, c .before .before .before .before .before .pre .3))
 
 loop-less : tie.Need-loop-less Inv-loop μ-loop
 loop-less c = omega arith
 
 loop-again : tie.Need-loop-again Inv-loop μ-loop
 loop-again c =
-    let s = c .before .before .before .before .before .before .before .before .before .args .s .now in (
+    let s = c .before .before .before .before .before .before .before .before .args .s .now in (
       omega arith,
-      omega (arith, c .before .before .before .before .before .before .loop .inv .1),
+      omega (arith, c .before .before .before .before .before .loop .inv .1),
       search needs,
-      backTo-more (liveBefore (functionIn s)) s (c .before .before .before .before .before .before .before .before .before .args .row) (c .before .before .before .before .before .before .before .before .before .args .end) (rows (c .before .before .before .before .before .before .before .before .before .args .t .now)) (c .before .before .before .before .before .before .loop .i) (omega arith) (c .before .before .before .before .before .before .loop .inv .1) (c .before .before .before .before .before .before .before .before .before .pre .2)
-          (c .before .before .before .before .operand-at .result) (c .before .before .before .before .operand-at .ensures) (rows (c .before .before .before .before .before .before .loop .t)) _ (c .before .before .before .before .before .before .loop .inv .3) (c .before .before .go-before .ensures),
+      backTo-more (liveBefore (functionIn s)) s (c .before .before .before .before .before .before .before .before .args .row) (c .before .before .before .before .before .before .before .before .args .end) (rows (c .before .before .before .before .before .before .before .before .args .t .now)) (c .before .before .before .before .before .loop .i) (omega arith) (c .before .before .before .before .before .loop .inv .1) (c .before .before .before .before .before .before .before .before .pre .2)
+          (operandOf (recordAt s (c .before .before .before .before .before .loop .i - 1))) refl (rows (c .before .before .before .before .before .loop .t)) _ (c .before .before .before .before .before .loop .inv .3) (c .before .before .step-back .ensures),
     )
 
 same-length : tie.Need-same-length Inv-loop μ-loop
@@ -62,8 +56,7 @@ go-back-spec =
     μ-loop
     loop-holds
     sub-i
-    operand-at-requires
-    go-before-requires
+    step-back-requires
     loop-less
     loop-again
     same-length

@@ -1,16 +1,16 @@
 -- `listing::blocks::list_block` meets its contract.
-use borrow.Author.Needs.{needs}
-use Rattle.listing.specs.Stepping.{Reached, headsFrom, instructionsFrom, heads-bounds, reached-start, reached-back, opened-before}
-use Rattle.listing.specs.Crossings.{fill, crossingsAmong}
-use Rattle.fixpoint.specs.Finding.{update-here}
-use Rattle.rows.specs.Rows.{rows}
-use Rattle.rules.specs.File.{functionIn}
-use Rattle.rules.specs.Lists.{NumberSet}
 use native.Mathlib.Omega.{arith}
-use lib.ListN.{length}
-use mathlib.Core.List.{List, [], _∷_}
-use mathlib.Core.Path.{_≡_, refl, _∙_, ap}
+use borrow.Author.Needs.{needs}
 use Prim.Native.Nat.{ℕ, _≤_, _-_}
+use mathlib.Core.Path.{_≡_, refl, _∙_, ap}
+use mathlib.Core.List.{List, [], _∷_}
+use lib.ListN.{length}
+use Rattle.rules.specs.Lists.{NumberSet}
+use Rattle.rules.specs.File.{functionIn}
+use Rattle.rows.specs.Rows.{rows}
+use Rattle.fixpoint.specs.Finding.{update-here}
+use Rattle.listing.specs.Crossings.{fill, crossingsAmong}
+use Rattle.listing.specs.Stepping.{Reached, headsFrom, instructionsFrom, reached-start, asked-before, reached-back}
 use Rattle.listing.proofs.blocks.list_block.Statement.{statement}
 use Rattle.listing.proofs.blocks.list_block.Tie as tie
 
@@ -47,29 +47,22 @@ slice-aggregate-list-at c = search needs
 
 list-at-requires : tie.Need-list-at-requires Inv-loop μ-loop
 list-at-requires c κs =
-    let s = c .before .before .before .before .before .before .before .before .before .before .args .s .now in
     let r = c .before .before .before .loop .inv .4 in
-    let h = c .before .before .before .before .before .before .before .before .before .before .pre .1 in
-    let bounds = heads-bounds s (c .before .before .before .before .before .before .before .before .before .before .args .end) (h .inside) (c .before .before .before .loop .p) (c .before .before .before .loop .inv .1) in
-    let o = opened-before s (c .before .before .before .before .before .before .before .before .before .before .args .start) (c .before .before .before .before .before .before .before .before .before .before .args .end) (c .before .before .before .before .before .before .before .before .before .before .args .behind) _ _ (c .before .before .before .loop .p) (c .before .before .before .loop .at) _ _ h (c .before .before .loop-test .taken) (c .before .before .before .loop .inv .1) (c .before .before .before .before .before .before .before .before .before .before .pre .3) r in
-    (c .before .before .before .before .before .before .before .before .before .before .pre .0, omega (arith, bounds .0, r .place), omega (arith, bounds .1, r .place, h .inside), o, omega (arith, c .before .before .before .loop .inv .3), omega (arith, c .before .before .before .loop .inv .2, c .before .before .before .before .before .before .before .before .before .before .pre .4, r .number))
+    let asked = asked-before (c .before .before .before .before .before .before .before .before .before .before .args .s .now) (c .before .before .before .before .before .before .before .before .before .before .args .end) (c .before .before .before .before .before .before .before .before .before .before .args .behind) _ _ (c .before .before .before .before .before .before .before .before .before .before .args .start) (c .before .before .before .before .before .before .before .before .before .before .pre .1) (c .before .before .before .before .before .before .before .before .before .before .pre .3) (c .before .before .before .loop .p) (c .before .before .loop-test .taken) (c .before .before .before .loop .inv .1) (c .before .before .before .loop .at) _ _ r in
+    (c .before .before .before .before .before .before .before .before .before .before .pre .0, asked .0, asked .1, asked .2, omega (arith, c .before .before .before .loop .inv .3), omega (arith, c .before .before .before .loop .inv .2, c .before .before .before .before .before .before .before .before .before .before .pre .4, r .number))
 
 loop-less : tie.Need-loop-less Inv-loop μ-loop
 loop-less c = omega arith
 
 loop-again : tie.Need-loop-again Inv-loop μ-loop
-loop-again c =
-    let s = c .before .before .before .before .before .before .before .before .before .before .before .before .before .before .args .s .now in
-    let r = c .before .before .before .before .before .before .before .loop .inv .4 in
-    let h = c .before .before .before .before .before .before .before .before .before .before .before .before .before .before .pre .1 in
-    let o = opened-before s (c .before .before .before .before .before .before .before .before .before .before .before .before .before .before .args .start) (c .before .before .before .before .before .before .before .before .before .before .before .before .before .before .args .end) (c .before .before .before .before .before .before .before .before .before .before .before .before .before .before .args .behind) _ _ (c .before .before .before .before .before .before .before .loop .p) (c .before .before .before .before .before .before .before .loop .at) _ _ h (c .before .before .before .before .before .before .loop-test .taken) (c .before .before .before .before .before .before .before .loop .inv .1) (c .before .before .before .before .before .before .before .before .before .before .before .before .before .before .pre .3) r in (
-      omega arith,
-      omega (arith, c .before .before .before .before .before .before .before .loop .inv .1),
-      search needs,
-      search needs,
-      reached-back s (c .before .before .before .before .before .before .before .before .before .before .before .before .before .before .args .end) (c .before .before .before .before .before .before .before .before .before .before .before .before .before .before .args .behind) (rows (c .before .before .before .before .before .before .before .before .before .before .before .before .before .before .args .outs .now) (c .before .before .before .before .before .before .before .before .before .before .before .before .before .before .args .b)) (rows (c .before .before .before .before .before .before .before .before .before .before .before .before .before .before .args .lists .now)) (h .inside) (c .before .before .before .before .before .before .before .loop .p) (omega arith) (c .before .before .before .before .before .before .before .loop .inv .1)
-          (c .before .before .before .before .before .before .before .loop .at) (c .before .before .before .list-at .result) o (rows (c .before .before .before .before .before .before .before .loop .live)) (rows (c .before .before .before .before .before .before .before .loop .lists)) _ _ r (c .before .before .before .list-at .ensures .0) (c .before .before .before .list-at .ensures .1) (c .before .before .before .list-at .ensures .2),
-    )
+loop-again c = (
+  omega arith,
+  omega (arith, c .before .before .before .before .before .before .before .loop .inv .1),
+  search needs,
+  search needs,
+  reached-back (c .before .before .before .before .before .before .before .before .before .before .before .before .before .before .args .s .now) (c .before .before .before .before .before .before .before .before .before .before .before .before .before .before .args .end) (c .before .before .before .before .before .before .before .before .before .before .before .before .before .before .args .behind) (rows (c .before .before .before .before .before .before .before .before .before .before .before .before .before .before .args .outs .now) (c .before .before .before .before .before .before .before .before .before .before .before .before .before .before .args .b)) (rows (c .before .before .before .before .before .before .before .before .before .before .before .before .before .before .args .lists .now)) (c .before .before .before .before .before .before .before .before .before .before .before .before .before .before .args .start) (c .before .before .before .before .before .before .before .before .before .before .before .before .before .before .pre .1) (c .before .before .before .before .before .before .before .before .before .before .before .before .before .before .pre .3) (c .before .before .before .before .before .before .before .loop .p) (c .before .before .before .before .before .before .loop-test .taken) (c .before .before .before .before .before .before .before .loop .inv .1)
+      (c .before .before .before .before .before .before .before .loop .at) (rows (c .before .before .before .before .before .before .before .loop .live)) (rows (c .before .before .before .before .before .before .before .loop .lists)) (c .before .before .before .before .before .before .before .loop .inv .4) (c .before .before .before .list-at .result) _ _ (c .before .before .before .list-at .ensures .0) (c .before .before .before .list-at .ensures .1) (c .before .before .before .list-at .ensures .2),
+)
 
 same-length : tie.Need-same-length Inv-loop μ-loop
 same-length c = search needs
