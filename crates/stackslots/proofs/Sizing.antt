@@ -16,11 +16,19 @@ use Rattle.stackslots.specs.Sizes.{slotSized, unsizedFrom}
 
 module _ (f : Function) where
   -- one value
-  pub sized-unspilled : (v : ℕ) → not (isSpilled f v) ≡ true → true ≡ slotSized f v
-  sized-unspilled v e = sym (ap (λ b. b || has (sizeOf f v) slotSizes) e)
+  pub sized-fine : (v : ℕ) → has (sizeOf f v) slotSizes ≡ true → true ≡ slotSized f v
+  sized-fine v e = go (not (isSpilled f v)) ∙ sym (ap (λ b. not (isSpilled f v) || b) e)
+    where
+      go : (b : Bool) → true ≡ b || true
+      go true = refl
+      go false = refl
 
-  pub sized-spilled : (v : ℕ) → not (isSpilled f v) ≡ false → has (sizeOf f v) slotSizes ≡ slotSized f v
-  sized-spilled v e = sym (ap (λ b. b || has (sizeOf f v) slotSizes) e)
+  pub sized-other : (v : ℕ) → has (sizeOf f v) slotSizes ≡ false → not (isSpilled f v) ≡ slotSized f v
+  sized-other v e = go (not (isSpilled f v)) ∙ sym (ap (λ b. not (isSpilled f v) || b) e)
+    where
+      go : (b : Bool) → b ≡ b || false
+      go true = refl
+      go false = refl
 
   -- the first of the values that are left, and the others
   unsized-more : (v k : ℕ) → unsizedFrom f v (suc k) ≡ not (slotSized f v) || unsizedFrom f (suc v) k

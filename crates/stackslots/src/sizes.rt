@@ -25,15 +25,16 @@ fn has_class(size: u32) -> bool
     }
 }
 
-// Whether a value has such a size, or is not spilled.
+// Whether a value has such a size, or is not spilled. The size is asked first: nearly every value has one, while which are spilled
+// cannot be foretold.
 fn has_slot_size(s: &[u8], spilled: &[u64], v: usize) -> bool
     requires { ⌜ Reading (now s) (now spilled) × (v < rowValues) ⌝ }
     ensures { λ r. ⌜ r ≡ slotSized (functionIn (now (s .entry))) v ⌝ }
 {
-    if !contains(spilled, 0, v) {
+    if has_class(size_of(s, v as u32)) {
         return true;
     }
-    has_class(size_of(s, v as u32))
+    !contains(spilled, 0, v)
 }
 
 // Whether all values of the file have.
