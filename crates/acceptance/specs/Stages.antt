@@ -13,21 +13,21 @@ use Rattle.rules.specs.Refusals.{Refusal, _when_, firstOf, tooMany, numberedFro
 use Rattle.rules.specs.Services.{isAccepted}
 use Rattle.rules.specs.declared.Verdict.{Verdict}
 use Rattle.rules.specs.declared.Verdict.the-variants as verdict
-use Rattle.lists.specs.Tests.{and-left, and-right, T-and, is-true, left-out}
+use Rattle.lists.specs.Tests.{and-left, and-right, T-and, left-out}
 
--- 2 to 5: of the records
+-- 2 to 4: of the records
 unfoldable pub recordRefusals : List ℕ → List Refusal
 recordRefusals s =
     (verdict.Length when not (eqb (length s % recordBytes) 0))
     ∷ (verdict.TooMany when tooMany s)
     ∷ (verdict.Malformed when not (ordered 0 (records s) && numberedFrom 0 (functionIn s .blocks)))
-    ∷ (verdict.NotInFile when not (numbersInFile (functionIn s)))
     ∷ []
 
--- 6 and 7: of the function
+-- 5 to 7: of the function
 unfoldable pub functionRefusals : List ℕ → List Refusal
 functionRefusals s =
-    (verdict.NotDefinedOnce when not (definedOnce (functionIn s)))
+    (verdict.NotInFile when not (numbersInFile (functionIn s)))
+    ∷ (verdict.NotDefinedOnce when not (definedOnce (functionIn s)))
     ∷ (verdict.Unsound when not (sound (functionIn s)))
     ∷ []
 
@@ -134,63 +134,81 @@ module _ (s : List ℕ) where
   unfolding recordRefusals
   records-many w m = rw (w, m) refl
 
-  pub records-malformed : whole ≡ true → tooMany s ≡ false → outOfOrder ≡ true → firstOf (recordRefusals s) ≡ verdict.Malformed
-  unfolding recordRefusals
-  records-malformed w m o = rw (w, m, o) refl
-
-  -- and last 5
+  -- and last 4
   pub records-last :
-      whole ≡ true → tooMany s ≡ false → outOfOrder ≡ false
-      → firstOf (recordRefusals s) ≡ elim (not (numbersInFile (functionIn s))) [ true ↦ verdict.NotInFile | false ↦ verdict.Accepted ]
+      whole ≡ true → tooMany s ≡ false → firstOf (recordRefusals s) ≡ elim outOfOrder [ true ↦ verdict.Malformed | false ↦ verdict.Accepted ]
   unfolding recordRefusals
-  records-last w m o = rw (w, m, o) refl
-
-  pub not-malformed : outOfOrder ≡ false → ordered 0 (records s) ≡ true
-  not-malformed o =
-      is-true (ordered 0 (records s))
-      (and-left (ordered 0 (records s)) (numberedFrom 0 (functionIn s .blocks))
-      (T-not-not (ordered 0 (records s) && numberedFrom 0 (functionIn s .blocks)) (subst (λ b. T (not b)) (sym o) tt)))
+  records-last w m = rw (w, m) refl
 
   -- THE SECOND LIKEWISE.
-  pub function-twice : not (definedOnce (functionIn s)) ≡ true → firstOf (functionRefusals s) ≡ verdict.NotDefinedOnce
+  pub function-outside : numbersInFile (functionIn s) ≡ false → firstOf (functionRefusals s) ≡ verdict.NotInFile
   unfolding functionRefusals
-  function-twice d = rw d refl
+  function-outside n = rw n refl
+
+  pub function-twice :
+      numbersInFile (functionIn s) ≡ true → not (definedOnce (functionIn s)) ≡ true → firstOf (functionRefusals s) ≡ verdict.NotDefinedOnce
+  unfolding functionRefusals
+  function-twice n d = rw (n, d) refl
 
   pub function-last :
-      not (definedOnce (functionIn s)) ≡ false
+      numbersInFile (functionIn s) ≡ true → not (definedOnce (functionIn s)) ≡ false
       → firstOf (functionRefusals s) ≡ elim (not (sound (functionIn s))) [ true ↦ verdict.Unsound | false ↦ verdict.Accepted ]
   unfolding functionRefusals
-  function-last d = rw d refl
+  function-last n d = rw (n, d) refl
 
   -- AND THE THIRD.
   pub walk-only : firstOf (walkRefusals s) ≡ elim (markedContext (functionIn s)) [ true ↦ verdict.MarkedContext | false ↦ verdict.Accepted ]
   unfolding walkRefusals
   walk-only = refl
 
--- what refusals 2 to 5 leave
+-- WHAT THEY LEAVE. Refusals 2 to 4,
+pub record Formed (s : List ℕ) : Type 0 where
+  pub few : T (not (tooMany s))
+  pub inOrder : T (ordered 0 (records s))
+  pub numbered : T (numberedFrom 0 (functionIn s .blocks))
+
+pub records-formed : (s : List ℕ) → T (recordsPass s) → Formed s
+unfolding recordRefusals
+records-formed s h =
+    let whole = not (eqb (length s % recordBytes) 0) in
+    let order = ordered 0 (records s) && numberedFrom 0 (functionIn s .blocks) in
+    let none = passed-none (recordRefusals s) tt h in
+    let from-3 = and-right (not whole) (not (tooMany s) && (not (not order) && true)) none in
+    let from-4 = and-right (not (tooMany s)) (not (not order) && true) from-3 in
+    let both = T-not-not order (and-left (not (not order)) true from-4) in
+    record {
+      few = and-left (not (tooMany s)) (not (not order) && true) from-3;
+      inOrder = and-left (ordered 0 (records s)) (numberedFrom 0 (functionIn s .blocks)) both;
+      numbered = and-right (ordered 0 (records s)) (numberedFrom 0 (functionIn s .blocks)) both;
+    }
+
+-- 5 to 7,
+pub function-is :
+    (s : List ℕ) → T (isAccepted (firstOf (functionRefusals s)))
+    → T (numbersInFile (functionIn s)) × T (definedOnce (functionIn s)) × T (sound (functionIn s))
+unfolding functionRefusals
+function-is s p =
+    let inFile = numbersInFile (functionIn s) in
+    let once = definedOnce (functionIn s) in
+    let isSound = sound (functionIn s) in
+    let none = passed-none (functionRefusals s) tt p in
+    let from-6 = and-right (not (not inFile)) (not (not once) && (not (not isSound) && true)) none in (
+      T-not-not inFile (and-left (not (not inFile)) (not (not once) && (not (not isSound) && true)) none),
+      T-not-not once (and-left (not (not once)) (not (not isSound) && true) from-6),
+      T-not-not isSound (and-left (not (not isSound)) true (and-right (not (not once)) (not (not isSound) && true) from-6)),
+    )
+
+-- and 2 to 5.
 pub record Readable (s : List ℕ) : Type 0 where
   pub few : T (not (tooMany s))
   pub inOrder : T (ordered 0 (records s))
   pub numbered : T (numberedFrom 0 (functionIn s .blocks))
   pub inFile : T (numbersInFile (functionIn s))
 
-pub records-readable : (s : List ℕ) → T (recordsPass s) → Readable s
-unfolding recordRefusals
-records-readable s h =
-    let whole = not (eqb (length s % recordBytes) 0) in
-    let order = ordered 0 (records s) && numberedFrom 0 (functionIn s .blocks) in
-    let inFile = numbersInFile (functionIn s) in
-    let none = passed-none (recordRefusals s) tt h in
-    let from-3 = and-right (not whole) (not (tooMany s) && (not (not order) && (not (not inFile) && true))) none in
-    let from-4 = and-right (not (tooMany s)) (not (not order) && (not (not inFile) && true)) from-3 in
-    let from-5 = and-right (not (not order)) (not (not inFile) && true) from-4 in
-    let both = T-not-not order (and-left (not (not order)) (not (not inFile) && true) from-4) in
-    record {
-      few = and-left (not (tooMany s)) (not (not order) && (not (not inFile) && true)) from-3;
-      inOrder = and-left (ordered 0 (records s)) (numberedFrom 0 (functionIn s .blocks)) both;
-      numbered = and-right (ordered 0 (records s)) (numberedFrom 0 (functionIn s .blocks)) both;
-      inFile = T-not-not inFile (and-left (not (not inFile)) true from-5);
-    }
+pub passed-readable : (s : List ℕ) → T (recordsPass s) → T (isAccepted (firstOf (functionRefusals s))) → Readable s
+passed-readable s h p =
+    let formed = records-formed s h in
+    record { few = formed .few; inOrder = formed .inOrder; numbered = formed .numbered; inFile = function-is s p .0 }
 
 -- A VERDICT, as code asks for it: whether it lets the call pass.
 pub said-no : {b : Bool} {v w : Verdict} → b ≡ isAccepted v → v ≡ w → not b ≡ true → T (not (isAccepted w))

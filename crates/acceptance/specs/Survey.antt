@@ -1,7 +1,7 @@
 -- The survey of a file: what is said of it, and the tables that it is read by afterwards, filled as far as it was read.
 use Prim.Native.Nat.{ℕ, suc, _<_, _≤_}
 use mathlib.Core.Path.{_≡_, ap, subst, _∙_}
-use mathlib.Core.Bool.{true, false, not, _&&_}
+use mathlib.Core.Bool.{true, false, not}
 use mathlib.Core.List.{List}
 use native.Mathlib.Omega.{arith}
 use lib.ListN.{length, replicate}
@@ -11,7 +11,7 @@ use Rattle.rules.specs.Lists.{padded}
 use Rattle.rules.specs.Records.{records}
 use Rattle.rules.specs.File.{functionIn}
 use Rattle.rules.specs.Graph.{reachable}
-use Rattle.rules.specs.Refusals.{firstOf, definedOnce, sound, markedContext, fileRefusals}
+use Rattle.rules.specs.Refusals.{firstOf, tooMany, definedOnce, sound, markedContext, fileRefusals}
 use Rattle.rules.specs.Services.{isAccepted}
 use Rattle.rules.specs.declared.Verdict.{Verdict}
 use Rattle.acceptance.specs.declared.survey.BlockCounts.{BlockCounts}
@@ -23,12 +23,12 @@ use Rattle.walks.specs.Reachable.{reachable-nodup}
 use Rattle.walks.specs.InFile.{blocks-some, reachable-in-file}
 use Rattle.graph.specs.Tails.{TailsLast}
 use Rattle.graph.specs.Blocks.{blockTable, length-blockTable}
-use Rattle.graph.specs.Tables.{indexTable, Given}
+use Rattle.graph.specs.Tables.{indexTable}
 use Rattle.graph.specs.Links.{Walked}
 use Rattle.graph.specs.Few.{records-few, values-few, blocks-few}
 use Rattle.graph.specs.Room.{Blank, blank-zeros}
 use Rattle.soundness.specs.Tails.{sound-tails}
-use Rattle.acceptance.specs.Stages.{recordRefusals, functionRefusals, walkRefusals, passed-none, recordsPass, functionPasses, stages-verdict, Readable, records-readable, T-not-not}
+use Rattle.acceptance.specs.Stages.{recordRefusals, functionRefusals, walkRefusals, passed-none, recordsPass, functionPasses, stages-verdict, Formed, function-is, Readable, passed-readable}
 
 -- the tables that a survey fills: how often each value is defined, where blocks start, the reachable blocks by index, each
 -- block's index; and the two that the walk only needs
@@ -69,8 +69,8 @@ blank-tables =
       next = perBlock;
     }
 
--- what is handed back. Definitions are counted and blocks found where refusals 2 to 5 let the file pass, and it is walked
--- where 6 and 7 do too; a table that is not come to is as it was lent. Blocks are told only of a file that was walked.
+-- what is handed back. Definitions are counted and blocks found where refusals 2 to 4 let the file pass, and it is walked
+-- where 5 to 7 do too; a table that is not come to is as it was lent. Blocks are told only of a file that was walked.
 pub record Surveyed (s : List ℕ) (lent back : SurveyTables) (verdict : Verdict) (blocks : BlockCounts) : Type 0 where
   pub says : verdict ≡ firstOf (fileRefusals s)
   pub all-counted : blocks .all ≡ elim (functionPasses s) [ true ↦ length (functionIn s .blocks) | false ↦ 0 ]
@@ -118,17 +118,6 @@ module _ (s : List ℕ) where
   verdict-walk p q =
       behind-records p ∙ chosen (isAccepted (firstOf (functionRefusals s))) (firstOf (walkRefusals s)) (firstOf (functionRefusals s)) q
 
-  -- a file that refusals 6 and 7 let pass defines each value once, and is sound
-  function-is : T (isAccepted (firstOf (functionRefusals s))) → T (definedOnce (functionIn s)) × T (sound (functionIn s))
-  unfolding functionRefusals
-  function-is p =
-      let once = definedOnce (functionIn s) in
-      let isSound = sound (functionIn s) in
-      let none = passed-none (functionRefusals s) tt p in (
-        T-not-not once (and-left (not (not once)) (not (not isSound) && true) none),
-        T-not-not isSound (and-left (not (not isSound)) true (and-right (not (not once)) (not (not isSound) && true) none)),
-      )
-
   -- An accepted file passed every stage,
   pub accepted-passes : T (isAccepted (firstOf (fileRefusals s))) → T (functionPasses s) × T (isAccepted (firstOf (walkRefusals s)))
   accepted-passes a =
@@ -147,41 +136,37 @@ module _ (s : List ℕ) where
   unfolding walkRefusals
   accepted-is a =
       let passes = accepted-passes a in
-      let function = function-is (and-right (recordsPass s) (isAccepted (firstOf (functionRefusals s))) (passes .0)) in
+      let passed = and-right (recordsPass s) (isAccepted (firstOf (functionRefusals s))) (passes .0) in
+      let function = function-is s passed in
       record {
-        readable = records-readable s (and-left (recordsPass s) (isAccepted (firstOf (functionRefusals s))) (passes .0));
-        once = function .0;
-        isSound = function .1;
+        readable = passed-readable s (and-left (recordsPass s) (isAccepted (firstOf (functionRefusals s))) (passes .0)) passed;
+        once = function .1;
+        isSound = function .2;
         unmarked = and-left (not (markedContext (functionIn s))) true (passed-none (walkRefusals s) tt (passes .1));
       }
 
 -- Definitions can be counted in a blank table.
-pub readable-countable : {s counts : List ℕ} → Readable s → Blank largestValues counts → Countable s counts
-readable-countable {s} r b =
+pub formed-countable : {s counts : List ℕ} → Formed s → Blank largestValues counts → Countable s counts
+formed-countable {s} r b =
     record {
       inOrder = is-true _ (r .inOrder);
-      inFile = is-true _ (r .inFile);
       few = records-few s (r .few);
       room = omega (arith, values-few s (r .few), b .0);
       zeros = zeros-at (b .1);
     }
 
--- THE TABLES OF A FILE THAT WAS READ, as the layers behind read them.
-module _ {s : List ℕ} (r : Readable s) where
-  -- where its blocks start,
-  pub table-given : {places : List ℕ} {n : ℕ} → largestBlocks < n → places ≡ padded n (blockTable s) → Given s places
-  table-given {places} {n} long isTable =
-      record {
-        inOrder = r .inOrder;
-        inFile = r .inFile;
-        table =
-            padded-own places (blockTable s) n isTable
-            (ap length isTable ∙ length-padded n (blockTable s) (omega (arith, length-blockTable s, blocks-few s (r .few))));
-      }
+-- THE TABLES OF A FILE THAT WAS READ, as the layers behind read them: where its blocks start,
+pub table-own :
+    (s : List ℕ) {places : List ℕ} {n : ℕ} → T (not (tooMany s)) → largestBlocks < n → places ≡ padded n (blockTable s)
+    → places ≡ padded (length places) (blockTable s)
+table-own s {places} {n} few long isTable =
+    padded-own places (blockTable s) n isTable
+    (ap length isTable ∙ length-padded n (blockTable s) (omega (arith, length-blockTable s, blocks-few s few)))
 
+module _ {s : List ℕ} (r : Readable s) where
   -- that its blocks' tails stand last,
   pub function-tails : T (isAccepted (firstOf (functionRefusals s))) → TailsLast s
-  function-tails passed = sound-tails s (r .inOrder) (function-is s passed .1)
+  function-tails passed = sound-tails s (r .inOrder) (function-is s passed .2)
 
   -- and its walk.
   pub numbered-walked :
@@ -200,7 +185,7 @@ module _ {s : List ℕ} (r : Readable s) where
             (λ x. reachable-in-file f (r .inFile) (blocks-some (records s) (r .inOrder))),
       )) in
       record {
-        given = table-given long isTable;
+        given = record { inOrder = r .inOrder; inFile = r .inFile; table = table-own s (r .few) long isTable };
         counted = counted;
         listed = padded-own order (reachable f) m isOrder order-long;
         tails = function-tails passed;
@@ -214,13 +199,14 @@ surveyed-walked {s} {lent} {back} b g a =
     let f = functionIn s in
     let passes = accepted-passes s (subst (λ v. T (isAccepted v)) (g .says) a) .0 in
     let read = and-left (recordsPass s) (isAccepted (firstOf (functionRefusals s))) passes in
-    numbered-walked (records-readable s read)
+    let passed = and-right (recordsPass s) (isAccepted (firstOf (functionRefusals s))) passes in
+    numbered-walked (passed-readable s read passed)
     (b .places .0)
     (g .places ∙ chosen (recordsPass s) (padded (length (lent .places)) (blockTable s)) (lent .places) read)
     (b .order .0)
     (g .order ∙ chosen (functionPasses s) (padded (length (lent .order)) (reachable f)) (lent .order) passes)
     (g .counted ∙ chosen (functionPasses s) (length (reachable f)) 0 passes)
-    (and-right (recordsPass s) (isAccepted (firstOf (functionRefusals s))) passes)
+    passed
 
 -- the file by its tables, with the indices of its blocks
 pub record Indexed (s places order index : List ℕ) (blocks : BlockCounts) : Type 0 where

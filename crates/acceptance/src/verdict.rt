@@ -1,18 +1,18 @@
-// What is said of a file before and without the walk: refusals 2 to 5, of its records, and 6 and 7, of its function.
+// What is said of a file before and without the walk: refusals 2 to 4, of its records, and 5 to 7, of its function.
 ghost use mathlib.Core.Path.{_≡_};
 ghost use lib.ListN.{length};
+ghost use Rattle.rules.specs.Lists.{padded};
 ghost use Rattle.rules.specs.Records.{records};
 ghost use Rattle.rules.specs.File.{functionIn};
 ghost use Rattle.rules.specs.Refusals.{refusalNumber, firstOf, _when_};
 ghost use Rattle.rules.specs.Services.{isAccepted};
 ghost use Rattle.checks.specs.Definitions.{notedAll, Countable};
-ghost use Rattle.graph.specs.Tables.{Given};
+ghost use Rattle.graph.specs.Blocks.{blockTable};
 ghost use Rattle.acceptance.specs.Stages.{thenRefused, recordRefusals, functionRefusals};
 use checks::counts::above_largest;
 use checks::counts::count_kinds;
 use checks::counts::too_long;
 use checks::definitions::each_once;
-use checks::numbers::not_in_file;
 use checks::order::malformed;
 use rules::RECORD_BYTES;
 use rules::Verdict;
@@ -59,7 +59,7 @@ pub fn or_refused(v: Verdict, why: Verdict, applies: bool) -> Verdict
     Verdict::Accepted
 }
 
-// Refusals 2 to 5: what is wrong with the records of a file.
+// Refusals 2 to 4: what is wrong with the records of a file.
 pub fn records_verdict(s: &[u8]) -> Verdict
     ensures { λ r. ⌜ r ≡ firstOf (recordRefusals (now (s .entry))) ⌝ }
 {
@@ -76,23 +76,23 @@ pub fn records_verdict(s: &[u8]) -> Verdict
     if malformed(s) {
         return Verdict::Malformed;
     }
-    if not_in_file(s, of) {
-        return Verdict::NotInFile;
-    }
     Verdict::Accepted
 }
 
-// Refusals 6 and 7: what is wrong with the function that they are, by its block table. The table of counts then has how
-// often each value is defined.
+// Refusals 5 to 7: what is wrong with the function that they are, by its block table. The table of counts then has how often
+// each value is defined.
 pub fn function_verdict(s: &[u8], counts: &mut [u32], places: &[usize], blocks: usize) -> Verdict
-    requires { ⌜ Countable (now s) (now counts) × Given (now s) (now places) × (blocks ≡ length (functionIn (now s) .blocks)) ⌝ }
+    requires { ⌜ Countable (now s) (now counts) × (now places ≡ padded (length (now places)) (blockTable (now s))) × (blocks ≡ length (functionIn (now s) .blocks)) ⌝ }
     ensures { λ r. ⌜ (r ≡ firstOf (functionRefusals (now (s .entry)))) × (now (counts .exit) ≡ notedAll (now (counts .entry)) (records (now (s .entry)))) ⌝ }
 {
-    let stands = all_stand(s, counts);
+    let found = all_stand(s, counts, places[0], blocks);
+    if !found.in_file {
+        return Verdict::NotInFile;
+    }
     if !each_once(counts, places[0]) {
         return Verdict::NotDefinedOnce;
     }
-    if unsound(s, places, blocks, stands) {
+    if unsound(s, places, blocks, found.stands) {
         return Verdict::Unsound;
     }
     Verdict::Accepted

@@ -1,5 +1,4 @@
 pub mod Counting
 pub mod Forming
-pub mod InFile
 pub mod Table
 pub mod Upward

@@ -1,4 +1,4 @@
--- Refusal 3 by how many records of a kind a file has, which refusal 5 reads too.
+-- Refusal 3 by how many records of a kind a file has.
 use mathlib.Core.Path.{_≡_, sym}
 use mathlib.Core.Bool.{Bool, true, false, _||_}
 use mathlib.Core.List.{List}

@@ -5,8 +5,8 @@ use mathlib.Core.Bool.{Bool, true, false, _||_, cond}
 use mathlib.Core.List.{List, [], _∷_, _++_, map}
 use native.Mathlib.Omega.{arith}
 use lib.ListN.{length, getD, set, length-set}
-use lib.Seq.{getD-set-same, getD-set-other}
-use lib.Dec.{T, eqb, eqb→eq, ltb→lt}
+use lib.Seq.{getD-set-same, getD-set-other, set-out}
+use lib.Dec.{T, eqb, ltb, eqb→eq, ltb→lt, nltb→le}
 use Rattle.rules.specs.Lists.{all, count, foldl, upFrom}
 use Rattle.rules.specs.Limits.{largestRecords}
 use Rattle.rules.specs.Tree.{Function}
@@ -74,9 +74,21 @@ noted-at t w v h = go (defines w) h
         omega arith)
     go false l = omega arith
 
+-- a value without a place is not noted
+pub noted-out : (t : List ℕ) (w : Words) → length t ≤ w .second → noted t w ≡ t
+unfolding noted
+noted-out t w l = go (defines w)
+  where
+    go : (b : Bool) → cond b (set t (w .second) (suc (getD t (w .second) 0))) t ≡ t
+    go true = set-out t (w .second) (suc (getD t (w .second) 0)) l
+    go false = refl
+
 -- no count passes the number of records by more than it did
-pub noted-small : (t : List ℕ) (w : Words) (i : ℕ) → (T (defines w) → w .second < length t) → ((v : ℕ) → getD t v 0 ≤ i) → (v : ℕ) → getD (noted t w) v 0 ≤ i + 1
-noted-small t w i h small v = omega (arith, noted-at t w v h, small v, one-small (defines w))
+pub noted-small : (t : List ℕ) (w : Words) (i : ℕ) → ((v : ℕ) → getD t v 0 ≤ i) → (v : ℕ) → getD (noted t w) v 0 ≤ i + 1
+noted-small t w i small v =
+    test-elim (ltb (w .second) (length t))
+    (λ y. let l = ltb→lt (w .second) (length t) y in omega (arith, noted-at t w v (λ d. l), small v, one-small (defines w)))
+    (λ n. omega (arith, ap (λ (u : List ℕ). getD u v 0) (noted-out t w (nltb→le (w .second) (length t) n)), small v))
   where
     one-small : (b : Bool) → cond b (bit (eqb v (w .second))) 0 ≤ 1
     one-small true = bit-at-most (eqb v (w .second))
@@ -99,14 +111,14 @@ times-more v r rs = go (eqb (kind r) 3) (eqb (kind r) 5) apart
 
 module _ (values blocks : ℕ) where
   -- records whose numbers are in the file define values that have a place
-  pub defines-fit : (r : Record) → T (fit values blocks r) → T (defines (encode r)) → encode r .second < values
+  defines-fit : (r : Record) → T (fit values blocks r) → T (defines (encode r)) → encode r .second < values
   defines-fit r f =
       or-elim (eqb (kind r) 3) (eqb (kind r) 5)
       (λ e. ltb→lt (encode r .second) values (fit-value values blocks (encode r) f 3 tt e))
       (λ e. ltb→lt (encode r .second) values (fit-value values blocks (encode r) f 5 tt e))
 
   -- a place of the table has how often its value is defined
-  pub notedAll-at : (rs : List Record) (t : List ℕ) (v : ℕ) → values ≤ length t → T (all (fit values blocks) rs)
+  notedAll-at : (rs : List Record) (t : List ℕ) (v : ℕ) → values ≤ length t → T (all (fit values blocks) rs)
       → getD (notedAll t rs) v 0 ≡ getD t v 0 + times v rs
   notedAll-at [] t v l f = omega arith
   notedAll-at (r ∷ rs) t v l f =
@@ -117,24 +129,18 @@ module _ (values blocks : ℕ) where
       let more = times-more v r rs in
       omega arith
 
--- What counting definitions asks of a file and of a lent table: order, numbers in the file, not too many records; and a
--- place for each value, with zeros to begin with.
+-- What counting definitions asks of a file and of a lent table: order, not too many records; and a place for each value,
+-- with zeros to begin with.
 pub record Countable (s t : List ℕ) : Type 0 where
   pub inOrder : ordered 0 (records s) ≡ true
-  pub inFile : numbersInFile (functionIn s) ≡ true
   pub few : recordCount s ≤ largestRecords
   pub room : length (functionIn s .values) ≤ length t
   pub zeros : (v : ℕ) → getD t v 0 ≡ 0
 
--- of such a file each record's numbers fit
-pub countable-fit : {s t : List ℕ} → Countable s t → T (all (fit (length (functionIn s .values)) (length (functionIn s .blocks))) (records s))
-countable-fit {s} c =
-    subst T (sym (sym (numbersInFile-by-records (records s) (subst T (sym (c .inOrder)) tt)) ∙ c .inFile)) tt
-
--- refusal 6, by the table
-pub definedOnce-by-table : (s t : List ℕ) → Countable s t
+-- refusal 6, by the table, of a file whose numbers are in it
+pub definedOnce-by-table : (s t : List ℕ) → Countable s t → numbersInFile (functionIn s) ≡ true
     → definedOnce (functionIn s) ≡ all (λ v. eqb (getD (notedAll t (records s)) v 0) 1) (upFrom 0 (length (functionIn s .values)))
-definedOnce-by-table s t c = λ i. all (λ v. eqb (same v i) 1) (upFrom 0 (length (f .values)))
+definedOnce-by-table s t c inFile = λ i. all (λ v. eqb (same v i) 1) (upFrom 0 (length (f .values)))
   where
     f : Function
     f = functionIn s
@@ -145,9 +151,12 @@ definedOnce-by-table s t c = λ i. all (λ v. eqb (same v i) 1) (upFrom 0 (lengt
     order : T (ordered 0 rs)
     order = subst T (sym (c .inOrder)) tt
 
+    fits : T (all (fit (length (f .values)) (length (f .blocks))) rs)
+    fits = subst T (sym (sym (numbersInFile-by-records rs order) ∙ inFile)) tt
+
     same : (v : ℕ) → count (eqb v) (definitions f) ≡ getD (notedAll t rs) v 0
     same v =
-        let there = notedAll-at (length (f .values)) (length (f .blocks)) rs t v (c .room) (countable-fit c) in
+        let there = notedAll-at (length (f .values)) (length (f .blocks)) rs t v (c .room) fits in
         let zero-first = c .zeros v in
         let apart : count (eqb v) (definitions f) ≡ times v rs =
         ap₂ (λ xs ys. count (eqb v) (xs ++ ys)) (parameters-in-order rs order) (results-in-order rs order) ∙ count-append (eqb v) (named 3 rs) (named 5 rs) in

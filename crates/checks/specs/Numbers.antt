@@ -3,12 +3,12 @@ use Prim.Native.Nat.{ℕ}
 use mathlib.Core.Path.{_≡_, refl, sym, ap, _∙_, subst}
 use mathlib.Core.Bool.{Bool, true, false, cond}
 use mathlib.Core.List.{List, [], _∷_, _++_, map}
-use lib.ListN.{length, length-map}
+use lib.ListN.{length}
 use lib.Dec.{T, eqb, ltb, eqb→eq}
 use Rattle.rules.specs.Lists.{all, concatMap, has}
 use Rattle.rules.specs.Tree.{Edge, Instruction, Function}
 use Rattle.rules.specs.Records.{encode, kind, edgeArgument}
-use Rattle.rules.specs.File.{ordered, Section, cut, ofKind, named, blockOf, function}
+use Rattle.rules.specs.File.{ordered, ofKind, named, function}
 use Rattle.rules.specs.Graph.{valuesAmong, valuesPassed}
 use Rattle.rules.specs.Refusals.{allInstructions, allEdges, definitions, uses, numbersInFile}
 use Rattle.rules.specs.declared.EdgeArgument.{EdgeArgument}
@@ -17,7 +17,7 @@ use Rattle.rules.specs.declared.Record.{Record}
 use Rattle.rules.specs.declared.Words.{Words}
 use Rattle.lists.specs.Tests.{T-ext, T-and, T-cond, or-elim, is-true, and-intro, and-left, and-right}
 use Rattle.lists.specs.Maps.{concatMap-concatMap, all-append, all-apart, all-map, all-three, all-of-three}
-use Rattle.records.specs.Parts.{cut-heads, parameters-in-order, results-in-order, arguments-in-order, contexts-in-order, targets-in-order, edgeArguments-in-order}
+use Rattle.records.specs.Parts.{parameters-in-order, results-in-order, arguments-in-order, contexts-in-order, targets-in-order, edgeArguments-in-order}
 
 -- The numbers that four words name are in a file of so many values and blocks: word 2 of a parameter, result, argument or
 -- context, and of an edge; word 3 of an edge argument that is a value.
@@ -297,14 +297,3 @@ module _ (rs : List Record) (h : T (ordered 0 rs)) where
           (subst (λ vs. T (all inFile vs)) (sym (contexts-in-order rs h)) (parts .contexts))))
           (subst T (all-map (λ b. ltb b m) (λ (e : Edge). e .target) (allEdges f))
           (subst (λ bs. T (all (λ b. ltb b m) bs)) (sym (targets-in-order rs h)) (parts .targets)))
-
--- the counts by records
-pub values-length : (rs : List Record) → length (function rs .values) ≡ length (ofKind 1 rs)
-unfolding function
-values-length rs = length-map (ofKind 1 rs) (λ (w : Words). record { size = w .second; marked = eqb (w .third) 1 })
-
-pub blocks-length : (rs : List Record) → length (function rs .blocks) ≡ length (ofKind 2 rs)
-unfolding function
-blocks-length rs =
-    let ss = cut (eqb 2) rs .sections in
-    length-map ss blockOf ∙ sym (length-map ss (λ (s : Section). encode (s .head))) ∙ ap length (cut-heads 2 rs)

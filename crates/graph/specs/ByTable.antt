@@ -7,9 +7,10 @@ use mathlib.Core.List.{List, [], _∷_}
 use native.Mathlib.Omega.{arith}
 use native.Mathlib.Numerals.{add-one}
 use lib.ListN.{length, getD}
-use lib.Dec.{eqb}
+use lib.Dec.{T, eqb}
+use Rattle.rules.specs.Lists.{padded}
 use Rattle.rules.specs.Records.{kind, recordAt, recordCount, records}
-use Rattle.rules.specs.File.{named, functionIn}
+use Rattle.rules.specs.File.{named, ordered, functionIn}
 use Rattle.rules.specs.Graph.{successors, reachable}
 use Rattle.lists.specs.Tests.{neqb→ne, passes-at}
 use Rattle.lists.specs.Members.{getD-∈}
@@ -25,22 +26,33 @@ use Rattle.graph.specs.Values.{values-first}
 use Rattle.graph.specs.Tables.{Given}
 use Rattle.graph.specs.Links.{Walked}
 
+-- BY THE BLOCK TABLE ALONE, whatever numbers the file names
+module _ (s places : List ℕ) (table : places ≡ padded (length places) (blockTable s)) where
+  -- the table has a place for each block, and one behind
+  pub table-long : length (functionIn s .blocks) < length places
+  table-long = omega (arith, ap length table, length-padded-le (length places) (blockTable s), length-blockTable s)
+
+  table-at : (b : ℕ) → getD places b 0 ≡ placeOf s b
+  table-at b = ap (λ (p : List ℕ). getD p b 0) table ∙ getD-padded (length places) (blockTable s) b
+
+  -- values are counted by the place of the first block
+  pub table-values : T (ordered 0 (records s)) → getD places 0 0 ≡ length (functionIn s .values)
+  table-values inOrder = table-at 0 ∙ values-first s inOrder
+
 -- BY NUMBER, with the file's block table
 module _ (s places : List ℕ) (g : Given s places) where
   -- there is a block
   pub some : 0 < length (functionIn s .blocks)
   some = blocks-some (records s) (g .inOrder)
 
-  -- the table has a place for each block, and one behind
   pub places-long : length (functionIn s .blocks) < length places
-  places-long = omega (arith, ap length (g .table), length-padded-le (length places) (blockTable s), length-blockTable s)
+  places-long = table-long s places (g .table)
 
   pub place-at : (b : ℕ) → getD places b 0 ≡ placeOf s b
-  place-at b = ap (λ (p : List ℕ). getD p b 0) (g .table) ∙ getD-padded (length places) (blockTable s) b
+  place-at = table-at s places (g .table)
 
-  -- values are counted by the place of the first block
   pub values-by-table : getD places 0 0 ≡ length (functionIn s .values)
-  values-by-table = place-at 0 ∙ values-first s (g .inOrder)
+  values-by-table = table-values s places (g .table) (g .inOrder)
 
   module _ (b : ℕ) (l : b < length (functionIn s .blocks)) where
     -- a block ends in the file

@@ -83,12 +83,12 @@ Blank largest table = (largest ≤ length table) × Zeros table
 pub blank-zeros : (n : ℕ) → Blank n (replicate n 0)
 blank-zeros n = (omega (arith, length-replicate {A = ℕ} n 0), zeros-zeros n)
 
--- TABLES OF THE LARGEST COUNTS are long enough for a file that those refusals let pass.
-module _ (s : List ℕ) (few : T (not (tooMany s))) (inOrder : T (ordered 0 (records s))) (inFile : T (numbersInFile (functionIn s))) where
-  -- the block table has a place for each block and one behind
-  pub table-room : (n : ℕ) → largestBlocks < n → length (blockPlaces s) < n
-  table-room n l = omega (arith, length-blockPlaces s, blocks-few s few)
+-- TABLES OF THE LARGEST COUNTS are long enough for a file that those refusals let pass. The block table has a place for each
+-- block and one behind,
+pub table-room : (s : List ℕ) → T (not (tooMany s)) → (n : ℕ) → largestBlocks < n → length (blockPlaces s) < n
+table-room s few n l = omega (arith, length-blockPlaces s, blocks-few s few)
 
+module _ (s : List ℕ) (few : T (not (tooMany s))) (inOrder : T (ordered 0 (records s))) (inFile : T (numbersInFile (functionIn s))) where
   enough : {table : List ℕ} → Blank largestBlocks table → length (functionIn s .blocks) ≤ length table
   enough h = omega (arith, blocks-few s few, h .0)
 

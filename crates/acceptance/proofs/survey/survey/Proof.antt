@@ -3,8 +3,8 @@ use mathlib.Core.Path.{_∙_}
 use Rattle.lists.specs.Tests.{is-true}
 use Rattle.graph.specs.Blocks.{length-blockPlaces}
 use Rattle.graph.specs.Room.{table-room, walk-lent}
-use Rattle.acceptance.specs.Stages.{records-readable, said-no, said-yes}
-use Rattle.acceptance.specs.Survey.{readable-countable, table-given, function-tails, numbered-walked}
+use Rattle.acceptance.specs.Stages.{records-formed, passed-readable, said-no, said-yes}
+use Rattle.acceptance.specs.Survey.{formed-countable, table-own, function-tails, numbered-walked}
 use Rattle.acceptance.proofs.Surveying.{ends-at-records, ends-at-function, ends-with-walk}
 use borrow.Author.Needs.{needs}
 use Rattle.acceptance.proofs.survey.survey.Statement.{statement}
@@ -25,16 +25,16 @@ places-of-requires : tie.Need-places-of-requires
 places-of-requires c κs =
     let start = c .before .before .before .before .before .before .before .before .before .before .before in
     let s = start .args .s .now in
-    let r = records-readable s (said-yes (c .before .before .is-accepted .ensures) (c .before .before .before .records-verdict .ensures) (c .before .if1 .left)) in
-    (table-room s (r .few) (r .inOrder) (r .inFile) _ (start .pre .places .0), start .pre .places .1, is-true _ (r .inOrder))
+    let r = records-formed s (said-yes (c .before .before .is-accepted .ensures) (c .before .before .before .records-verdict .ensures) (c .before .if1 .left)) in
+    (table-room s (r .few) _ (start .pre .places .0), start .pre .places .1, is-true _ (r .inOrder))
 
 function-verdict-requires : tie.Need-function-verdict-requires
 function-verdict-requires c κs =
     let start = c .before .before .before .before .before .before .before .before .before .before .before .before .before .before .before .before in
     let s = start .args .s .now in
-    let r = records-readable s (said-yes (c .before .before .before .before .before .before .before .is-accepted .ensures) (c .before .before .before .before .before .before .before .before .records-verdict .ensures) (c .before .before .before .before .before .before .if1 .left)) in
+    let r = records-formed s (said-yes (c .before .before .before .before .before .before .before .is-accepted .ensures) (c .before .before .before .before .before .before .before .before .records-verdict .ensures) (c .before .before .before .before .before .before .if1 .left)) in
     let found = c .before .before .before .before .places-of .ensures in
-    (readable-countable r (start .pre .counts), table-given r (start .pre .places .0) (found .1), found .0 ∙ length-blockPlaces s)
+    (formed-countable r (start .pre .counts), table-own s (r .few) (start .pre .places .0) (found .1), found .0 ∙ length-blockPlaces s)
 
 is-accepted-requires-2 : tie.Need-is-accepted-requires-2
 is-accepted-requires-2 c κs = search needs
@@ -56,16 +56,17 @@ post-order-requires : tie.Need-post-order-requires
 post-order-requires c κs =
     let start = c .before .before .before .before .before .before .before .before .before .before .before .before .before .before .before .before .before .before .before .before .before .before .before .before .before .before in
     let s = start .args .s .now in
-    let r = records-readable s (said-yes (c .before .before .before .before .before .before .before .before .before .before .before .before .before .before .before .before .before .is-accepted .ensures) (c .before .before .before .before .before .before .before .before .before .before .before .before .before .before .before .before .before .before .records-verdict .ensures) (c .before .before .before .before .before .before .before .before .before .before .before .before .before .before .before .before .if1 .left)) in
-    walk-lent s (r .few) (r .inOrder) (r .inFile) _ _ _ _ _ (table-given r (start .pre .places .0) (c .before .before .before .before .before .before .before .before .before .before .before .before .before .before .places-of .ensures .1) .table) (start .pre .order) (start .pre .index) (start .pre .stack) (start .pre .next)
-    (function-tails r (said-yes (c .before .before .before .before .before .before .is-accepted2 .ensures) (c .before .before .before .before .before .before .before .before .before .function-verdict .ensures .0) (c .before .before .before .before .before .if2 .left)))
+    let passed = said-yes (c .before .before .before .before .before .before .is-accepted2 .ensures) (c .before .before .before .before .before .before .before .before .before .function-verdict .ensures .0) (c .before .before .before .before .before .if2 .left) in
+    let r = passed-readable s (said-yes (c .before .before .before .before .before .before .before .before .before .before .before .before .before .before .before .before .before .is-accepted .ensures) (c .before .before .before .before .before .before .before .before .before .before .before .before .before .before .before .before .before .before .records-verdict .ensures) (c .before .before .before .before .before .before .before .before .before .before .before .before .before .before .before .before .if1 .left)) passed in
+    walk-lent s (r .few) (r .inOrder) (r .inFile) _ _ _ _ _ (table-own s (r .few) (start .pre .places .0) (c .before .before .before .before .before .before .before .before .before .before .before .before .before .before .places-of .ensures .1)) (start .pre .order) (start .pre .index) (start .pre .stack) (start .pre .next)
+    (function-tails r passed)
 
 walk-verdict-requires : tie.Need-walk-verdict-requires
 walk-verdict-requires c κs =
     let start = c .before .before .before .before .before .before .before .before .before .before .before .before .before .before .before .before .before .before .before .before .before .before .before .before .before .before .before .before .before .before .before .before .before .before .before .before .before in
     let walk = c .before .before .before .before .before .before .before .before .before .before .post-order in
-    numbered-walked (records-readable (start .args .s .now) (said-yes (c .before .before .before .before .before .before .before .before .before .before .before .before .before .before .before .before .before .before .before .before .before .before .before .before .before .before .before .before .is-accepted .ensures) (c .before .before .before .before .before .before .before .before .before .before .before .before .before .before .before .before .before .before .before .before .before .before .before .before .before .before .before .before .before .records-verdict .ensures) (c .before .before .before .before .before .before .before .before .before .before .before .before .before .before .before .before .before .before .before .before .before .before .before .before .before .before .before .if1 .left))) (start .pre .places .0) (c .before .before .before .before .before .before .before .before .before .before .before .before .before .before .before .before .before .before .before .before .before .before .before .before .before .places-of .ensures .1) (start .pre .order .0) (walk .ensures .order) (walk .ensures .count)
-    (said-yes (c .before .before .before .before .before .before .before .before .before .before .before .before .before .before .before .before .before .is-accepted2 .ensures) (c .before .before .before .before .before .before .before .before .before .before .before .before .before .before .before .before .before .before .before .before .function-verdict .ensures .0) (c .before .before .before .before .before .before .before .before .before .before .before .before .before .before .before .before .if2 .left))
+    let passed = said-yes (c .before .before .before .before .before .before .before .before .before .before .before .before .before .before .before .before .before .is-accepted2 .ensures) (c .before .before .before .before .before .before .before .before .before .before .before .before .before .before .before .before .before .before .before .before .function-verdict .ensures .0) (c .before .before .before .before .before .before .before .before .before .before .before .before .before .before .before .before .if2 .left) in
+    numbered-walked (passed-readable (start .args .s .now) (said-yes (c .before .before .before .before .before .before .before .before .before .before .before .before .before .before .before .before .before .before .before .before .before .before .before .before .before .before .before .before .is-accepted .ensures) (c .before .before .before .before .before .before .before .before .before .before .before .before .before .before .before .before .before .before .before .before .before .before .before .before .before .before .before .before .before .records-verdict .ensures) (c .before .before .before .before .before .before .before .before .before .before .before .before .before .before .before .before .before .before .before .before .before .before .before .before .before .before .before .if1 .left)) passed) (start .pre .places .0) (c .before .before .before .before .before .before .before .before .before .before .before .before .before .before .before .before .before .before .before .before .before .before .before .before .before .places-of .ensures .1) (start .pre .order .0) (walk .ensures .order) (walk .ensures .count) passed
 
 same-length-3 : tie.Need-same-length-3
 same-length-3 c = search needs

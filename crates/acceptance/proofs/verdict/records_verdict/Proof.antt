@@ -6,7 +6,7 @@ use borrow.Author.Tests.{eq-eqb, ne-eqb, ltb-false}
 use Rattle.rules.specs.Limits.{largestRecords}
 use Rattle.rules.specs.declared.Verdict.{Verdict}
 use Rattle.checks.specs.Counts.{tooMany-long, tooMany-counted}
-use Rattle.acceptance.specs.Stages.{records-length, records-many, records-malformed, records-last, not-malformed}
+use Rattle.acceptance.specs.Stages.{records-length, records-many, records-last}
 use borrow.Author.Needs.{needs}
 use Rattle.acceptance.proofs.verdict.records_verdict.Statement.{statement}
 use Rattle.acceptance.proofs.verdict.records_verdict.Tie as tie
@@ -41,22 +41,13 @@ returns-4 : tie.Need-returns-4
 returns-4 c =
     let s = c .before .before .before .before .before .before .before .before .before .args .s .now in
     let few = tooMany-counted s (c .before .before .before .before .count-kinds .result) (sym (c .before .before .before .before .before .before .too-long .ensures) ∙ c .before .before .before .before .before .if2 .left) (c .before .before .before .before .count-kinds .ensures) ∙ sym (c .before .before .before .above-largest .ensures) ∙ c .before .before .if3 .left in
-    sym (records-malformed s (eq-eqb _ 0 (c .before .before .before .before .before .before .before .if1 .left)) few (sym (c .before .malformed .ensures) ∙ c .if4 .taken))
-
-not-in-file-requires : tie.Need-not-in-file-requires
-not-in-file-requires c κs = (not-malformed (c .before .before .before .before .before .before .before .before .before .args .s .now) (sym (c .before .malformed .ensures) ∙ c .if4 .left), c .before .before .before .before .count-kinds .ensures)
+    sym (records-last s (eq-eqb _ 0 (c .before .before .before .before .before .before .before .if1 .left)) few ∙ ap (λ b. elim b as (λ _. Verdict) [ true ↦ verdict.Malformed | false ↦ verdict.Accepted ]) (sym (c .before .malformed .ensures) ∙ c .if4 .taken))
 
 returns-5 : tie.Need-returns-5
 returns-5 c =
-    let s = c .before .before .before .before .before .before .before .before .before .before .before .args .s .now in
-    let few = tooMany-counted s (c .before .before .before .before .before .before .count-kinds .result) (sym (c .before .before .before .before .before .before .before .before .too-long .ensures) ∙ c .before .before .before .before .before .before .before .if2 .left) (c .before .before .before .before .before .before .count-kinds .ensures) ∙ sym (c .before .before .before .before .before .above-largest .ensures) ∙ c .before .before .before .before .if3 .left in
-    sym (records-last s (eq-eqb _ 0 (c .before .before .before .before .before .before .before .before .before .if1 .left)) few (sym (c .before .before .before .malformed .ensures) ∙ c .before .before .if4 .left) ∙ ap (λ b. elim b as (λ _. Verdict) [ true ↦ verdict.NotInFile | false ↦ verdict.Accepted ]) (sym (c .before .not-in-file .ensures) ∙ c .if5 .taken))
-
-returns-6 : tie.Need-returns-6
-returns-6 c =
-    let s = c .before .before .before .before .before .before .before .before .before .before .before .args .s .now in
-    let few = tooMany-counted s (c .before .before .before .before .before .before .count-kinds .result) (sym (c .before .before .before .before .before .before .before .before .too-long .ensures) ∙ c .before .before .before .before .before .before .before .if2 .left) (c .before .before .before .before .before .before .count-kinds .ensures) ∙ sym (c .before .before .before .before .before .above-largest .ensures) ∙ c .before .before .before .before .if3 .left in
-    sym (records-last s (eq-eqb _ 0 (c .before .before .before .before .before .before .before .before .before .if1 .left)) few (sym (c .before .before .before .malformed .ensures) ∙ c .before .before .if4 .left) ∙ ap (λ b. elim b as (λ _. Verdict) [ true ↦ verdict.NotInFile | false ↦ verdict.Accepted ]) (sym (c .before .not-in-file .ensures) ∙ c .if5 .left))
+    let s = c .before .before .before .before .before .before .before .before .before .args .s .now in
+    let few = tooMany-counted s (c .before .before .before .before .count-kinds .result) (sym (c .before .before .before .before .before .before .too-long .ensures) ∙ c .before .before .before .before .before .if2 .left) (c .before .before .before .before .count-kinds .ensures) ∙ sym (c .before .before .before .above-largest .ensures) ∙ c .before .before .if3 .left in
+    sym (records-last s (eq-eqb _ 0 (c .before .before .before .before .before .before .before .if1 .left)) few ∙ ap (λ b. elim b as (λ _. Verdict) [ true ↦ verdict.Malformed | false ↦ verdict.Accepted ]) (sym (c .before .malformed .ensures) ∙ c .if4 .left))
 
 pub records-verdict-spec : {M : Type 1} → statement M
 records-verdict-spec =
@@ -70,6 +61,4 @@ records-verdict-spec =
     returns-3
     malformed-requires
     returns-4
-    not-in-file-requires
-    returns-5
-    returns-6)
+    returns-5)

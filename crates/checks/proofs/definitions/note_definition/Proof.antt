@@ -1,11 +1,10 @@
 -- `checks::definitions::note_definition` meets its contract.
-use Rattle.checks.specs.Definitions.{defines, noted}
+use Rattle.checks.specs.Definitions.{defines, noted, noted-out}
 use lib.ListN.{set, getD}
-use lib.Dec.{T}
 use native.Mathlib.Numerals.{add-one}
 use Prim.Native.Nat.{suc}
 use mathlib.Core.Bool.{true, false, cond}
-use mathlib.Core.Path.{_≡_, sym, ap, _∙_, subst}
+use mathlib.Core.Path.{_≡_, sym, ap, _∙_}
 use borrow.Author.Needs.{needs}
 use Rattle.checks.proofs.definitions.note_definition.Statement.{statement}
 use Rattle.checks.proofs.definitions.note_definition.Tie as tie
@@ -20,13 +19,13 @@ mul-counts : tie.Need-mul-counts
 mul-counts c = search needs
 
 slice-read-counts : tie.Need-slice-read-counts
-slice-read-counts c = c .before .before .before .before .before .pre .0 (subst T (sym (sym (c .before .before .before .is-definition .ensures) ∙ c .before .before .if1 .taken)) tt)
+slice-read-counts c = search needs
 
 add-counts : tie.Need-add-counts
 add-counts c = search needs
 
 slice-write-counts : tie.Need-slice-write-counts
-slice-write-counts c = c .before .before .before .before .before .pre .0 (subst T (sym (sym (c .before .before .before .is-definition .ensures) ∙ c .before .before .if1 .taken)) tt)
+slice-write-counts c = search needs
 
 same-length : tie.Need-same-length
 same-length c = search needs
@@ -34,14 +33,17 @@ same-length c = search needs
 returns : tie.Need-returns
 unfolding noted
 returns c =
-    let w = c .before .before .before .before .before .args .w in
-    let t = c .before .before .before .before .before .args .counts .now in
-    let d : defines w ≡ true = sym (c .before .before .before .is-definition .ensures) ∙ c .before .before .if1 .taken in
+    let w = c .before .before .before .before .before .before .args .w in
+    let t = c .before .before .before .before .before .before .args .counts .now in
+    let d : defines w ≡ true = sym (c .before .before .before .before .is-definition .ensures) ∙ c .before .before .before .if1 .taken in
     ap (λ n. set t (w .second) n) (add-one (getD t (w .second) 0)) ∙ sym (ap (λ b. cond b (set t (w .second) (suc (getD t (w .second) 0))) t) d)
 
 returns-2 : tie.Need-returns-2
+returns-2 c = sym (noted-out (c .before .before .before .before .before .args .counts .now) (c .before .before .before .before .before .args .w) (c .if2 .left))
+
+returns-3 : tie.Need-returns-3
 unfolding noted
-returns-2 c =
+returns-3 c =
     let w = c .before .before .before .args .w in
     let t = c .before .before .before .args .counts .now in
     let d : defines w ≡ false = sym (c .before .is-definition .ensures) ∙ c .if1 .left in
@@ -59,4 +61,5 @@ note-definition-spec =
     slice-write-counts
     same-length
     returns
-    returns-2)
+    returns-2
+    returns-3)
