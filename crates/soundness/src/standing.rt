@@ -1,8 +1,9 @@
 // Refusal 7, but for whether edges fit: blocks that end once, and what an instruction has by its flags. The pass that asks
 // for it holds numbers against the file too, for refusal 5, and counts definitions, for refusal 6.
 ghost use mathlib.Core.Path.{_≡_};
-ghost use mathlib.Core.Bool.{_&&_};
+ghost use mathlib.Core.Bool.{true, not, cond, _&&_, _||_};
 ghost use lib.ListN.{length};
+ghost use lib.Dec.{eqb, ltb};
 ghost use Rattle.rules.specs.Records.{isTerminator, records};
 ghost use Rattle.rules.specs.File.{functionIn};
 ghost use Rattle.rules.specs.Refusals.{numbersInFile};
@@ -10,7 +11,6 @@ ghost use Rattle.checks.specs.Definitions.{notedAll, Countable};
 ghost use Rattle.checks.specs.Numbers.{numbersFit};
 ghost use Rattle.soundness.specs.Standing.{safepointFlags, mayStand, flagsBehind, standing};
 use checks::definitions::note_definition;
-use checks::numbers::numbers_fit;
 use records::in_order::words_at;
 use rules::RECORD_BYTES;
 use rules::Words;
@@ -25,65 +25,106 @@ fn is_safepoint_terminator(flags: u32) -> bool
     false
 }
 
-// Whether a record may stand where the last instruction in front of it has these flags, 2 at the start of a file and 0 at
-// the start of a block.
-fn may_stand(flags: u32, w: Words) -> bool
-    ensures { λ r. ⌜ r ≡ mayStand flags w ⌝ }
+// Whether an edge to a block may stand where the last instruction in front of it has these flags.
+fn edge_stands(flags: u32, target: u32) -> bool
+    ensures { λ r. ⌜ r ≡ (isTerminator flags && not (eqb target 0)) ⌝ }
+{
+    if flags < 2 {
+        return false;
+    }
+    target != 0
+}
+
+// Whether an edge argument may stand there: one that passes a value anywhere, a returned or exception word in a safepoint's edge.
+fn argument_stands(flags: u32, passes: u32) -> bool
+    ensures { λ r. ⌜ r ≡ (safepointFlags flags || eqb passes 0) ⌝ }
+{
+    if passes == 0 {
+        return true;
+    }
+    is_safepoint_terminator(flags)
+}
+
+// Whether an edge argument names a value of the file, or none.
+fn argument_in_file(passes: u32, value: u32, values: usize) -> bool
+    ensures { λ r. ⌜ r ≡ cond (eqb passes 0) (ltb value values) true ⌝ }
+{
+    if passes == 0 {
+        return (value as usize) < values;
+    }
+    true
+}
+
+// What is found of one record: whether the numbers that it names are in the file, whether it may stand where it does, and the
+// flags of the last instruction in front of what stands behind it.
+struct Judged {
+    in_file: bool,
+    stands: bool,
+    flags: u32,
+}
+
+// All of it by one look at the record's kind, where the last instruction in front of it has these flags, 2 at the start of a
+// file and 0 at the start of a block.
+fn judge(flags: u32, w: Words, values: usize, blocks: usize) -> Judged
+    ensures { λ r. ⌜ (r .in_file ≡ numbersFit values blocks w) × (r .stands ≡ mayStand flags w) × (r .flags ≡ flagsBehind flags w) ⌝ }
 {
     let k = w.kind;
+    let a = w.second;
     match k {
-        2 => 2 <= flags,
-        4 => flags < 2,
-        5 => flags < 2,
-        7 => if flags < 2 { false } else { w.second != 0 },
-        8 => if w.second == 0 {
-            true
-        } else {
-            is_safepoint_terminator(flags)
+        2 => Judged {
+            in_file: true,
+            stands: 2 <= flags,
+            flags: 0,
         },
-        9 => is_safepoint_terminator(flags),
-        _ => true,
+        3 => Judged {
+            in_file: (a as usize) < values,
+            stands: true,
+            flags,
+        },
+        4 => Judged {
+            in_file: true,
+            stands: flags < 2,
+            flags: a,
+        },
+        5 => Judged {
+            in_file: (a as usize) < values,
+            stands: flags < 2,
+            flags,
+        },
+        6 => Judged {
+            in_file: (a as usize) < values,
+            stands: true,
+            flags,
+        },
+        7 => Judged {
+            in_file: (a as usize) < blocks,
+            stands: edge_stands(flags, a),
+            flags,
+        },
+        8 => Judged {
+            in_file: argument_in_file(a, w.third, values),
+            stands: argument_stands(flags, a),
+            flags,
+        },
+        9 => Judged {
+            in_file: (a as usize) < values,
+            stands: is_safepoint_terminator(flags),
+            flags,
+        },
+        _ => Judged {
+            in_file: true,
+            stands: true,
+            flags,
+        },
     }
 }
 
-// The flags of the last instruction in front of what stands behind a record.
-fn flags_behind(flags: u32, w: Words) -> u32
-    ensures { λ r. ⌜ r ≡ flagsBehind flags w ⌝ }
+// Whether something held of all records in front of one, and holds of it.
+fn still(held: bool, holds: bool) -> bool
+    ensures { λ r. ⌜ r ≡ (held && holds) ⌝ }
 {
-    let k = w.kind;
-    match k {
-        2 => 0,
-        4 => w.second,
-        _ => flags,
-    }
-}
-
-// Whether a record may stand there, and those in front of it may.
-fn still_stands(stands: bool, flags: u32, w: Words) -> bool
-    ensures { λ r. ⌜ r ≡ (stands && mayStand flags w) ⌝ }
-{
-    if stands {
-        return may_stand(flags, w);
-    }
-    false
-}
-
-// Whether the numbers that a record names are in the file, and those of the records in front of it are.
-fn still_in_file(in_file: bool, w: Words, values: usize, blocks: usize) -> bool
-    ensures { λ r. ⌜ r ≡ (in_file && numbersFit values blocks w) ⌝ }
-{
-    if in_file {
-        return numbers_fit(w, values, blocks);
-    }
-    false
-}
-
-// Whether the records of a file may stand where they do, and the flags of its last instruction are a terminator's.
-fn ends_standing(stands: bool, flags: u32) -> bool
-    ensures { λ r. ⌜ r ≡ (stands && isTerminator flags) ⌝ }
-{
-    if stands {
-        return 2 <= flags;
+    if held {
+        return holds;
     }
     false
 }
@@ -109,14 +150,15 @@ pub fn all_stand(s: &[u8], counts: &mut [u32], values: usize, blocks: usize) -> 
     let mut i: usize = 0;
     while i < n {
         let w = words_at(s, i);
-        in_file = still_in_file(in_file, w, values, blocks);
-        stands = still_stands(stands, flags, w);
-        flags = flags_behind(flags, w);
+        let judged = judge(flags, w, values, blocks);
+        in_file = still(in_file, judged.in_file);
+        stands = still(stands, judged.stands);
+        flags = judged.flags;
         note_definition(w, counts);
         i += 1;
     }
     Standing {
         in_file,
-        stands: ends_standing(stands, flags),
+        stands: still(stands, 2 <= flags),
     }
 }

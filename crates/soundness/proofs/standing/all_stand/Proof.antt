@@ -41,14 +41,14 @@ loop-holds c =
 words-at-requires : tie.Need-words-at-requires Inv-loop μ-loop
 words-at-requires c κs = (search needs, c .before .before .before .before .pre .0 .inOrder)
 
-still-in-file-requires : tie.Need-still-in-file-requires Inv-loop μ-loop
-still-in-file-requires c κs = search needs
+judge-requires : tie.Need-judge-requires Inv-loop μ-loop
+judge-requires c κs = search needs
 
-still-stands-requires : tie.Need-still-stands-requires Inv-loop μ-loop
-still-stands-requires c κs = search needs
+still-requires : tie.Need-still-requires Inv-loop μ-loop
+still-requires c κs = search needs
 
-flags-behind-requires : tie.Need-flags-behind-requires Inv-loop μ-loop
-flags-behind-requires c κs = search needs
+still-requires-2 : tie.Need-still-requires-2 Inv-loop μ-loop
+still-requires-2 c κs = search needs
 
 note-definition-requires : tie.Need-note-definition-requires Inv-loop μ-loop
 note-definition-requires c κs =
@@ -72,9 +72,10 @@ loop-again c =
     let w = c .before .before .before .before .before .before .before .words-at .ensures in
     let e = c .before .before .note-definition .ensures in
     let fits = fit (start .values) (start .blocks) in
-    let named = c .before .before .before .before .before .before .still-in-file .ensures ∙ ap (λ x. at .in-file && numbersFit (start .values) (start .blocks) x) w in
-    let may = c .before .before .before .before .before .still-stands .ensures ∙ ap (λ x. at .stands && mayStand (at .flags) x) w in
-    let next = c .before .before .before .before .flags-behind .ensures ∙ ap (flagsBehind (at .flags)) w in
+    let judged = c .before .before .before .before .before .before .judge .ensures in
+    let named = c .before .before .before .before .before .still .ensures ∙ ap (λ b. at .in-file && b) (judged .0 ∙ ap (numbersFit (start .values) (start .blocks)) w) in
+    let may = c .before .before .before .before .still2 .ensures ∙ ap (λ b. at .stands && b) (judged .1 ∙ ap (mayStand (at .flags)) w) in
+    let next = judged .2 ∙ ap (flagsBehind (at .flags)) w in
     let r = encode (recordAt s i) in (
       search needs,
       ap length e ∙ noted-length t v ∙ at .inv .1,
@@ -88,8 +89,8 @@ loop-again c =
           ∙ sym (ap (λ b. at .stands && b) (standing-next s (at .flags) i (search needs))) ∙ at .inv .5,
     )
 
-ends-standing-requires : tie.Need-ends-standing-requires Inv-loop μ-loop
-ends-standing-requires c κs = search needs
+still-requires-3 : tie.Need-still-requires-3 Inv-loop μ-loop
+still-requires-3 c κs = search needs
 
 same-length : tie.Need-same-length Inv-loop μ-loop
 same-length c = c .before .before .loop .inv .1
@@ -104,7 +105,7 @@ returns c =
     let none = ap (rest s) n ∙ restBy-done (λ t. recordAt t 0) s in (
       sym (ap (λ rs. at .in-file && all (fit (start .values) (start .blocks)) rs) none ∙ and-true (at .in-file)) ∙ at .inv .4
           ∙ in-file s (start .values) (start .blocks) (pre .0 .inOrder) (pre .1) (pre .2),
-      c .ends-standing .ensures ∙ sym (ap (λ rs. at .stands && standing (at .flags) rs) none) ∙ at .inv .5,
+      c .still3 .ensures ∙ sym (ap (λ rs. at .stands && standing (at .flags) rs) none) ∙ at .inv .5,
       sym (ap (notedAll (at .counts)) none) ∙ at .inv .3,
     )
 
@@ -116,13 +117,13 @@ all-stand-spec =
     μ-loop
     loop-holds
     words-at-requires
-    still-in-file-requires
-    still-stands-requires
-    flags-behind-requires
+    judge-requires
+    still-requires
+    still-requires-2
     note-definition-requires
     add-i
     loop-less
     loop-again
-    ends-standing-requires
+    still-requires-3
     same-length
     returns)
