@@ -12,7 +12,7 @@ use Rattle.rules.specs.File.{cut, blockOf, followers, follows, function, functi
 use Rattle.rules.specs.Refusals.{numberedFrom}
 use Rattle.rules.specs.declared.Words.{Words}
 use Rattle.rules.specs.declared.Record.{Record}
-use Rattle.lists.specs.Tests.{test-elim, T-ext, is-true, is-false}
+use Rattle.lists.specs.Tests.{T-ext, is-false}
 use Rattle.records.specs.Kinds.{kind-small}
 use Rattle.records.specs.InTable.{inTable, fourWords, words-there, kind-outside}
 use Rattle.records.specs.Places.{rest, rest-all, rest-next, restBy-done}
@@ -109,9 +109,3 @@ module _ (s : List ℕ) (i : ℕ) (w : Words) (e : w ≡ fourWords s i) where
   outside-follows h p l =
       ap (follows p) (kind-outside s i (ap inTable (sym e) ∙ h))
       ∙ is-false (follows p 0) (all-below (λ q. not (follows q 0)) 16 tt p l)
-
-  -- So whatever they are, a file in which their kind may not follow is malformed.
-  pub formed-unfollowing : (p n : ℕ) → p < 16 → i < recordCount s → follows p (w .kind) ≡ false → formed s p n i ≡ false
-  formed-unfollowing p n small l apart =
-      test-elim (inTable w) (λ h. formed-order s p n i w (words-stand (is-true (inTable w) h)) l apart)
-      (λ h. formed-order s p n i (encode (recordAt s i)) refl l (outside-follows (is-false (inTable w) h) p small))

@@ -35,14 +35,11 @@ fn followers_of(p: u32) -> u32
     }
 }
 
-// Whether a kind, or what stands in its place, may stand behind kind p, 0 for the start of the file.
+// Whether kind k may stand behind kind p, 0 for the start of the file.
 fn may_follow(p: u32, k: u32) -> bool
-    requires { ⌜ p < 16 ⌝ }
+    requires { ⌜ (p < 16) × (k < 16) ⌝ }
     ensures { λ r. ⌜ r ≡ follows p k ⌝ }
 {
-    if k >= 16 {
-        return false;
-    }
     (followers_of(p) >> k) % 2 == 1
 }
 
@@ -67,10 +64,10 @@ pub fn malformed(s: &[u8]) -> bool
     let mut i: usize = 0;
     while i < n {
         let w = four_words(s, i);
-        if !may_follow(p, w.kind) {
+        if !is_in_table(w) {
             return true;
         }
-        if !is_in_table(w) {
+        if !may_follow(p, w.kind) {
             return true;
         }
         if !numbered_as(w, number) {

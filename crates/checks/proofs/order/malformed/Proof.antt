@@ -8,7 +8,7 @@ use lib.Dec.{eqb}
 use borrow.Author.Tests.{not-true, not-false}
 use Rattle.rules.specs.Records.{encode, recordAt, recordCount}
 use Rattle.lists.specs.Counts.{bit-at-most}
-use Rattle.checks.proofs.Forming.{formed, formed-all, formed-done, formed-order, formed-number, formed-goes, formed-unfollowing, ends-early, words-stand, kind-stands, outside-follows}
+use Rattle.checks.proofs.Forming.{formed, formed-all, formed-done, formed-order, formed-number, formed-goes, ends-early, words-stand, kind-stands, outside-follows}
 use Rattle.checks.proofs.order.malformed.Statement.{statement}
 use Rattle.checks.proofs.order.malformed.Tie as tie
 
@@ -24,28 +24,36 @@ loop-holds c = (search needs, search needs, search needs, refl)
 four-words-requires : tie.Need-four-words-requires Inv-loop μ-loop
 four-words-requires c κs = search needs
 
-may-follow-requires : tie.Need-may-follow-requires Inv-loop μ-loop
-may-follow-requires c κs = search needs
+is-in-table-requires : tie.Need-is-in-table-requires Inv-loop μ-loop
+is-in-table-requires c κs = search needs
 
 returns : tie.Need-returns Inv-loop μ-loop
 returns c =
     let s = c .before .before .before .before .before .before .args .s .now in
     let at = c .before .before .before .before .loop in
-    let w = c .before .before .four-words in
-    let no = sym (c .before .may-follow .ensures) ∙ not-true (c .before .may-follow .result) (c .if1 .taken) in
-    sym (ap not (sym (formed-all s) ∙ sym (at .inv .3) ∙ formed-unfollowing s (at .i) (w .result) (w .ensures) (at .p) (at .number) (at .inv .1) (search needs) no))
+    let w = c .before .before .four-words .result in
+    let out = sym (c .before .is-in-table .ensures) ∙ not-true (c .before .is-in-table .result) (c .if1 .taken) in
+    let no = outside-follows s (at .i) w (c .before .before .four-words .ensures) out (at .p) (at .inv .1) in
+    sym (ap not (sym (formed-all s) ∙ sym (at .inv .3) ∙ formed-order s (at .p) (at .number) (at .i) (encode (recordAt s (at .i))) refl (search needs) no))
 
-is-in-table-requires : tie.Need-is-in-table-requires Inv-loop μ-loop
-is-in-table-requires c κs = search needs
+may-follow-requires : tie.Need-may-follow-requires Inv-loop μ-loop
+may-follow-requires c κs =
+    let s = c .before .before .before .before .before .before .args .s .now in
+    let at = c .before .before .before .before .loop in
+    let w = c .before .before .four-words .result in
+    let in-table = sym (c .before .is-in-table .ensures) ∙ not-false (c .before .is-in-table .result) (c .if1 .left) in
+    let small = kind-stands s (at .i) w (c .before .before .four-words .ensures) in-table in
+    search needs
 
 returns-2 : tie.Need-returns-2 Inv-loop μ-loop
 returns-2 c =
     let s = c .before .before .before .before .before .before .before .before .args .s .now in
     let at = c .before .before .before .before .before .before .loop in
-    let w = c .before .before .before .before .four-words in
-    let out = sym (c .before .is-in-table .ensures) ∙ not-true (c .before .is-in-table .result) (c .if2 .taken) in
-    let no = outside-follows s (at .i) (w .result) (w .ensures) out (at .p) (at .inv .1) in
-    sym (ap not (sym (formed-all s) ∙ sym (at .inv .3) ∙ formed-order s (at .p) (at .number) (at .i) (encode (recordAt s (at .i))) refl (search needs) no))
+    let w = c .before .before .before .before .four-words .result in
+    let in-table = sym (c .before .before .before .is-in-table .ensures) ∙ not-false (c .before .before .before .is-in-table .result) (c .before .before .if1 .left) in
+    let stands = words-stand s (at .i) w (c .before .before .before .before .four-words .ensures) in-table in
+    let no = sym (c .before .may-follow .ensures) ∙ not-true (c .before .may-follow .result) (c .if2 .taken) in
+    sym (ap not (sym (formed-all s) ∙ sym (at .inv .3) ∙ formed-order s (at .p) (at .number) (at .i) w stands (search needs) no))
 
 numbered-as-requires : tie.Need-numbered-as-requires Inv-loop μ-loop
 numbered-as-requires c κs = search needs
@@ -55,7 +63,7 @@ returns-3 c =
     let s = c .before .before .before .before .before .before .before .before .before .before .args .s .now in
     let at = c .before .before .before .before .before .before .before .before .loop in
     let w = c .before .before .before .before .before .before .four-words .result in
-    let in-table = sym (c .before .before .before .is-in-table .ensures) ∙ not-false (c .before .before .before .is-in-table .result) (c .before .before .if2 .left) in
+    let in-table = sym (c .before .before .before .before .before .is-in-table .ensures) ∙ not-false (c .before .before .before .before .before .is-in-table .result) (c .before .before .before .before .if1 .left) in
     let stands = words-stand s (at .i) w (c .before .before .before .before .before .before .four-words .ensures) in-table in
     let no = sym (c .before .numbered-as .ensures) ∙ not-true (c .before .numbered-as .result) (c .if3 .taken) in
     sym (ap not (sym (formed-all s) ∙ sym (at .inv .3) ∙ formed-number s (at .p) (at .number) (at .i) w stands (search needs) no))
@@ -77,10 +85,10 @@ loop-again c =
     let s = c .before .before .before .before .before .before .before .before .before .before .before .args .s .now in
     let at = c .before .before .before .before .before .before .before .before .before .loop in
     let w = c .before .before .before .before .before .before .before .four-words .result in
-    let in-table = sym (c .before .before .before .before .is-in-table .ensures) ∙ not-false (c .before .before .before .before .is-in-table .result) (c .before .before .before .if2 .left) in
+    let in-table = sym (c .before .before .before .before .before .before .is-in-table .ensures) ∙ not-false (c .before .before .before .before .before .before .is-in-table .result) (c .before .before .before .before .before .if1 .left) in
     let small = kind-stands s (at .i) w (c .before .before .before .before .before .before .before .four-words .ensures) in-table in
     let stands = words-stand s (at .i) w (c .before .before .before .before .before .before .before .four-words .ensures) in-table in
-    let follows-on = sym (c .before .before .before .before .before .before .may-follow .ensures) ∙ not-false (c .before .before .before .before .before .before .may-follow .result) (c .before .before .before .before .before .if1 .left) in
+    let follows-on = sym (c .before .before .before .before .may-follow .ensures) ∙ not-false (c .before .before .before .before .may-follow .result) (c .before .before .before .if2 .left) in
     let numbered = sym (c .before .before .numbered-as .ensures) ∙ not-false (c .before .before .numbered-as .result) (c .before .if3 .left) in
     let goes = formed-goes s (at .p) (at .number) (at .i) w stands (search needs) follows-on numbered in (
       search needs,
@@ -103,9 +111,9 @@ malformed-spec =
     μ-loop
     loop-holds
     four-words-requires
-    may-follow-requires
-    returns
     is-in-table-requires
+    returns
+    may-follow-requires
     returns-2
     numbered-as-requires
     returns-3
