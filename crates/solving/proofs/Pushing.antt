@@ -1,14 +1,13 @@
--- Pushing the blocks of a list, one entry after the other; and all blocks by index, from the highest down.
-use Prim.Native.Nat.{ℕ, zero, suc, _+_, _-_, _<_, _≤_}
+-- Pushing the blocks of a list, one entry after the other.
+use Prim.Native.Nat.{ℕ, suc, _+_, _-_, _<_}
 use native.Mathlib.Omega.{arith}
 use mathlib.Core.Path.{_≡_, refl, sym, ap, subst, _∙_}
-use mathlib.Core.List.{List, [], _∷_, List·Nodup, nodup-cons}
-use lib.ListN.{length, getD, take, drop}
-use lib.Seq.{getD-take, drop-cons, drop-length, length-take-le}
+use mathlib.Core.List.{List, [], _∷_}
+use lib.ListN.{length, getD}
 use Rattle.rules.specs.Limits.{largestBlocks}
-use Rattle.lists.specs.Members.{_∈_, here, there, getD-∈}
-use Rattle.fixpoint.specs.Removal.{moveToTop, remove-absent}
-use Rattle.worklist.specs.Entries.{entries, Stacked, Kept}
+use Rattle.lists.specs.Members.{here, there}
+use Rattle.fixpoint.specs.Removal.{moveToTop}
+use Rattle.worklist.specs.Entries.{entries, Kept}
 use Rattle.solving.specs.declared.Progress.{Progress}
 use Rattle.solving.specs.Chains.{chain, Chain, chain-more, chain-behind}
 use Rattle.solving.specs.Progress.{pushAll, Pushable, Pushed}
@@ -112,44 +111,3 @@ module _ (from next all : List ℕ) (at : Progress) (tag : ℕ) (here′ : Progr
               (subst (λ (ps : List ℕ). Pushed ps here′ r) (sym list)
               (pushed-more (getD from e 0) (chain from next (getD next e 0)) here′ next′ r one pushed));
         }
-
--- ALL BLOCKS. In a list without repetitions no member stands behind itself,
-nodup-behind : (l : List ℕ) (i : ℕ) → List·Nodup l → i < length l → getD l i 0 ∈ drop (suc i) l → ⊥
-nodup-behind [] i d h m = absurd (omega arith)
-nodup-behind (x ∷ l) zero d h m = nodup-cons .0 d .0 ∣ m ∣₁
-nodup-behind (x ∷ l) (suc i) d h m = nodup-behind l i (nodup-cons .0 d .1) (omega arith) m
-
--- so pushing it puts it on top of those behind it.
-push-front : (l : List ℕ) (i : ℕ) → List·Nodup l → i < length l → moveToTop (getD l i 0) (drop (suc i) l) ≡ drop i l
-push-front l i d h =
-    ap (λ (r : List ℕ). getD l i 0 ∷ r) (remove-absent (getD l i 0) (drop (suc i) l) (nodup-behind l i d h))
-    ∙ sym (drop-cons l i 0 h)
-
-module _ (order : List ℕ) (count : ℕ) (fits : count ≤ length order) (h : Stacked (take count order)) where
-  -- the blocks by index
-  abbrev blocks : List ℕ
-  blocks = take count order
-
-  long : length blocks ≡ count
-  long = length-take-le count order fits
-
-  -- none is pushed at the start
-  pub starting-none : drop count blocks ≡ []
-  starting-none = ap (λ (n : ℕ). drop n blocks) (sym long) ∙ drop-length blocks
-
-  at-index : (j : ℕ) → j < count → getD blocks j 0 ≡ getD order j 0
-  at-index j l = getD-take count order j 0 l
-
-  -- every block by index can be pushed,
-  pub starting-below : (j : ℕ) → j < count → getD order j 0 < largestBlocks
-  starting-below j l =
-      subst (λ (x : ℕ). x < largestBlocks) (at-index j l)
-      (h .below (getD blocks j 0) (getD-∈ blocks j 0 (omega (arith, long))))
-
-  -- and goes on top of those of higher indices
-  pub starting-more : (i : ℕ) → 0 < i → i ≤ count → moveToTop (getD order (i - 1) 0) (drop i blocks) ≡ drop (i - 1) blocks
-  starting-more i opened le =
-      let is : i ≡ suc (i - 1) = omega arith in
-      ap (λ (x : ℕ). moveToTop x (drop i blocks)) (sym (at-index (i - 1) (omega arith)))
-      ∙ ap (λ (n : ℕ). moveToTop (getD blocks (i - 1) 0) (drop n blocks)) is
-      ∙ push-front blocks (i - 1) (h .once) (omega (arith, long))

@@ -4,7 +4,7 @@ ghost use mathlib.Core.Path.{_≡_};
 ghost use mathlib.Core.Bool.{true};
 ghost use mathlib.Core.List.{_∷_, []};
 ghost use Prim.Native.Nat.{ℕ, _≤_, _<_};
-ghost use lib.ListN.{length, getD, take};
+ghost use lib.ListN.{length, getD};
 ghost use Rattle.rules.specs.Lists.{empty};
 ghost use Rattle.rules.specs.Records.{recordAt, recordCount, records};
 ghost use Rattle.rules.specs.File.{named, ordered, functionIn};
@@ -15,7 +15,7 @@ ghost use Rattle.graph.specs.Between.{between};
 ghost use Rattle.graph.specs.Tails.{TailsLast, TailLast};
 ghost use Rattle.graph.specs.Tables.{Given};
 ghost use Rattle.rows.specs.Rows.{rows, HasRow};
-ghost use Rattle.worklist.specs.Entries.{entries, Stacked, Kept};
+ghost use Rattle.worklist.specs.Entries.{entries};
 ghost use Rattle.solving.specs.Chains.{chain, Chain};
 ghost use Rattle.solving.specs.Progress.{joinedInto, Added, Pushable, Pushed, Stands};
 ghost use Rattle.solving.specs.Tables.{Ruled, LiveTables, Listed, Ready, Solvable};
@@ -152,20 +152,6 @@ fn is_done(at: Progress) -> bool
     worklist.is_empty()
 }
 
-// All indices are pushed, highest first, so that index 0 is on top.
-fn start_worklist(order: &[usize], count: usize) -> Worklist
-    requires { ⌜ (count ≤ length (now order)) × Stacked (take count (now order)) ⌝ }
-    ensures { λ r. ⌜ (entries r ≡ take count (now (order .entry))) × Kept r ⌝ }
-{
-    let mut worklist = Worklist::new();
-    let mut i = count;
-    while i > 0 {
-        i -= 1;
-        worklist = worklist.pushing(order[i]);
-    }
-    worklist
-}
-
 // The whole process, from tables of zeros until no block is left to visit.
 pub fn solve(
     s: &[u8],
@@ -184,7 +170,7 @@ pub fn solve(
     ensures { λ r. ⌜ (rows (now (ins .exit)) ≡ process (functionIn (now (s .entry))) .ins) × (rows (now (outs .exit)) ≡ process (functionIn (now (s .entry))) .outs) × (r .visits ≡ length (process (functionIn (now (s .entry))) .visited)) × (r .pushes ≡ process (functionIn (now (s .entry))) .pushes) ⌝ }
 {
     let mut at = Progress {
-        worklist: start_worklist(order, count),
+        worklist: Worklist::stacked(order, count),
         visits: 0,
         pushes: count as u32,
     };

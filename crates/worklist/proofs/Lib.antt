@@ -3,3 +3,4 @@ pub mod Moving
 pub mod Places
 pub mod Raising
 pub mod Walks
+pub mod Stacking

@@ -4,12 +4,13 @@
 // work. `pushing` and `popping` take a worklist by value, for callers that lend nothing.
 ghost use mathlib.Core.Path.{_≡_};
 ghost use mathlib.Core.Bool.{false};
-ghost use mathlib.Core.List.{[], _∷_};
-ghost use Prim.Native.Nat.{_<_};
+ghost use mathlib.Core.List.{_∷_};
+ghost use Prim.Native.Nat.{_<_, _≤_};
+ghost use lib.ListN.{length, take};
 ghost use Rattle.rules.specs.Limits.{largestBlocks};
 ghost use Rattle.rules.specs.Lists.{empty};
 ghost use Rattle.fixpoint.specs.Removal.{moveToTop};
-ghost use Rattle.worklist.specs.Entries.{entries, Kept};
+ghost use Rattle.worklist.specs.Entries.{entries, Stacked, Kept};
 use rows::bit_of;
 use rows::has_bit;
 use rules::LARGEST_BLOCKS;
@@ -36,14 +37,26 @@ fn wide(x: u8) -> usize
 }
 
 impl Worklist {
-    // No block stands on it.
-    pub fn new() -> Worklist
-        ensures { λ r. ⌜ (entries r ≡ []) × Kept r ⌝ }
+    // All blocks of a list, the first on top: as if the last were pushed first.
+    pub fn stacked(order: &[usize], count: usize) -> Worklist
+        requires { ⌜ (count ≤ length (now order)) × Stacked (take count (now order)) ⌝ }
+        ensures { λ r. ⌜ (entries r ≡ take count (now (order .entry))) × Kept r ⌝ }
     {
+        let mut blocks = [0u8; LARGEST_BLOCKS];
+        let mut filled: usize = 0;
+        let mut pending: u64 = 0;
+        let mut i = count;
+        while i > 0 {
+            i -= 1;
+            let block = order[i];
+            blocks[filled] = block as u8;
+            filled += 1;
+            pending = pending | bit_of(block);
+        }
         Worklist {
-            blocks: [0u8; LARGEST_BLOCKS],
-            count: 0,
-            pending: 0,
+            blocks,
+            count: filled,
+            pending,
         }
     }
 

@@ -21,15 +21,15 @@ Inv-loop s places order count first from next uses kills ins₀ outs₀ at₀ in
 abbrev μ-loop : tie.MeasureT-loop
 μ-loop s places order count first from next uses kills ins₀ outs₀ at₀ ins outs at = bound (functionIn s) - at .visits
 
-start-worklist-requires : tie.Need-start-worklist-requires Inv-loop μ-loop
-start-worklist-requires c κs = start-requires (c .before .before .before .before .before .before .before .before .before .before .pre)
+stacked-requires : tie.Need-stacked-requires Inv-loop μ-loop
+stacked-requires c κs = start-requires (c .before .before .before .before .before .before .before .before .before .before .pre)
 
 cast-t14 : tie.Need-cast-t14 Inv-loop μ-loop
 cast-t14 c = omega (arith, count-fits (c .before .before .before .before .before .before .before .before .before .before .before .pre))
 
 loop-holds : tie.Need-loop-holds Inv-loop μ-loop
 loop-holds c =
-    let first = c .start-worklist in
+    let first = c .stacked in
     (refl, refl, start-stands (c .before .before .before .before .before .before .before .before .before .before .before .pre) (first .result) (first .ensures .0) (first .ensures .1))
 
 is-done-requires : tie.Need-is-done-requires Inv-loop μ-loop
@@ -83,7 +83,7 @@ solve-spec =
     (tie.spec
     Inv-loop
     μ-loop
-    start-worklist-requires
+    stacked-requires
     cast-t14
     loop-holds
     is-done-requires
