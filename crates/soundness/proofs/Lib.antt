@@ -2,3 +2,4 @@ pub mod EdgePlaces
 pub mod FittingCases
 pub mod Noting
 pub mod StandingCases
+pub mod PassedValues

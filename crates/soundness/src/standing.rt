@@ -137,8 +137,8 @@ pub struct Standing {
 }
 
 // Whether the records of a file of so many values and blocks name none that it does not have; and whether every one may stand
-// where it does, and a terminator ends the file. It goes over all of them whatever it finds, and the table then has how often
-// each value is defined.
+// where it does, and a terminator ends the file. It goes over all of them whatever it finds, but for the values, which stand
+// first and may, name nothing and define nothing; the table then has how often each value is defined.
 pub fn all_stand(s: &[u8], counts: &mut [u32], values: usize, blocks: usize) -> Standing
     requires { ⌜ Countable (now s) (now counts) × (values ≡ length (functionIn (now s) .values)) × (blocks ≡ length (functionIn (now s) .blocks)) ⌝ }
     ensures { λ r. ⌜ (r .in_file ≡ numbersInFile (functionIn (now (s .entry)))) × (r .stands ≡ standing 2 (records (now (s .entry)))) × (now (counts .exit) ≡ notedAll (now (counts .entry)) (records (now (s .entry)))) ⌝ }
@@ -147,7 +147,7 @@ pub fn all_stand(s: &[u8], counts: &mut [u32], values: usize, blocks: usize) -> 
     let mut flags: u32 = 2;
     let mut in_file = true;
     let mut stands = true;
-    let mut i: usize = 0;
+    let mut i = values;
     while i < n {
         let w = words_at(s, i);
         let judged = judge(flags, w, values, blocks);

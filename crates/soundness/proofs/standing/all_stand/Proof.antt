@@ -1,14 +1,17 @@
 -- `soundness::standing::all_stand` meets its contract.
 use borrow.Author.Needs.{needs}
 use Rattle.soundness.proofs.Noting.{noted-next, fit-next, in-file}
+use Rattle.soundness.proofs.PassedValues.{values-records, standing-passed, fit-passed, noted-passed}
 use Rattle.soundness.proofs.StandingCases.{standing-next}
 use Rattle.soundness.specs.Standing.{mayStand, flagsBehind, standing}
 use Rattle.checks.specs.Definitions.{noted, notedAll, noted-length, noted-small}
 use Rattle.checks.specs.Numbers.{numbersFit, fit}
-use Rattle.records.specs.Places.{rest, rest-all, restBy-done}
+use Rattle.records.specs.Places.{rest, restBy-done}
 use Rattle.rules.specs.Records.{recordCount, records, recordAt, encode}
 use Rattle.rules.specs.Lists.{all}
 use lib.ListN.{getD, length}
+use lib.Dec.{T}
+use Rattle.rules.specs.File.{functionIn}
 use native.Mathlib.Omega.{arith}
 use mathlib.Core.Path.{_≡_, refl, sym, ap, ap₂, _∙_, subst}
 use mathlib.Core.Bool.{_&&_, and-assoc, and-true}
@@ -29,13 +32,15 @@ abbrev μ-loop : tie.MeasureT-loop
 loop-holds : tie.Need-loop-holds Inv-loop μ-loop
 loop-holds c =
     let start = c .before .before in
-    let s = start .args .s .now in (
-      search needs,
+    let s = start .args .s .now in
+    let inOrder = subst T (sym (start .pre .0 .inOrder)) tt in
+    let few : start .args .values ≤ length (functionIn s .values) = omega (arith, start .pre .1) in (
+      omega (arith, start .pre .1, values-records s inOrder),
       refl,
       λ v. let z = start .pre .0 .zeros v in omega arith,
-      ap (notedAll (start .args .counts .now)) (rest-all s),
-      ap (all (fit (start .args .values) (start .args .blocks))) (rest-all s),
-      ap (standing 2) (rest-all s),
+      noted-passed s inOrder (start .args .counts .now) (start .args .values) few,
+      fit-passed s inOrder (start .args .values) (start .args .blocks) (start .args .values) few,
+      standing-passed s inOrder (start .args .values) few,
     )
 
 words-at-requires : tie.Need-words-at-requires Inv-loop μ-loop
