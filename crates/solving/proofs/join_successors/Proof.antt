@@ -5,7 +5,6 @@ use Prim.Native.Nat.{ℕ, _-_, _≤_}
 use mathlib.Core.Path.{_≡_, refl, sym, ap, _∙_}
 use mathlib.Core.List.{List}
 use lib.ListN.{length}
-use Rattle.rules.specs.Records.{recordAt}
 use Rattle.rules.specs.File.{named}
 use Rattle.rows.specs.Rows.{rows}
 use Rattle.graph.specs.Between.{between}
