@@ -1,7 +1,8 @@
 #!/usr/bin/env python3
 """Reads the library's LLVM module and writes it with the count of a row, `rows::count`, by the machine's count of ones, word by word.
 
-For bench/ones alone: what is left of a time when it is not spent on counting bit by bit. Nothing of it is proved or shipped."""
+For bench/ones alone: what is left of a time when it is not spent on counting bit by bit. Nothing of it is proved or shipped. On x86-64 as the kit
+compiles for it there is no instruction for it, and the compiler counts by shifts and masks."""
 
 import re
 import sys

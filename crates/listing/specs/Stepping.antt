@@ -1,4 +1,4 @@
--- The walk back over a block's records, instruction by instruction: where it stands, and what the rows are there.
+-- The walk back over a block's records, one after the other: where it stands, and what the rows are there.
 use Prim.Native.Nat.{ℕ, zero, suc, _+_, _-_, _<_, _≤_}
 use mathlib.Core.Path.{_≡_, refl, sym, ap, ap₂, subst, _∙_}
 use mathlib.Core.Bool.{Bool, true, false, not, _&&_, _||_, cond}

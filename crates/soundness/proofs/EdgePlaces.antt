@@ -7,7 +7,6 @@ use mathlib.Core.List.{List}
 use native.Mathlib.Omega.{arith}
 use lib.ListN.{length, getD}
 use lib.Dec.{T, eqb, eqb→eq, not-T}
-use Rattle.rules.specs.Lists.{all}
 use Rattle.rules.specs.Records.{kind, recordAt, recordCount, records}
 use Rattle.rules.specs.File.{ordered, functionIn}
 use Rattle.records.specs.Kinds.{Kinds}

@@ -6,7 +6,7 @@ use mathlib.Core.Path.{_≡_, sym, ap, ap₂, _∙_}
 use mathlib.Core.Bool.{true, _&&_}
 use mathlib.Core.List.{List}
 use lib.ListN.{length}
-use lib.Dec.{T, eqb, eqb→eq, ltb, ltb→lt, nltb→le}
+use lib.Dec.{T, eqb→eq, ltb, ltb→lt, nltb→le}
 use borrow.Author.Tests.{ne-eqb}
 use Rattle.rules.specs.Lists.{all}
 use Rattle.rules.specs.Records.{encode, kind, recordAt, recordCount, records}

@@ -1,4 +1,4 @@
-// Refusal 7: the faults of a file in order that its records show only together.
+// Refusal 7: the faults of a file in order that its records show only together; and in the pass for it refusal 5 and the counts for 6.
 ghost use mathlib.Core.Path.{_≡_};
 ghost use mathlib.Core.Bool.{not};
 ghost use lib.ListN.{length};

@@ -35,7 +35,7 @@ fn edge_stands(flags: u32, target: u32) -> bool
     target != 0
 }
 
-// Whether an edge argument may stand there: one that passes a value anywhere, a returned or exception word in a safepoint's edge.
+// Whether an edge argument, by its word 2, may stand there: one that passes a value anywhere, a returned or exception word in a safepoint's edge.
 fn argument_stands(flags: u32, passes: u32) -> bool
     ensures { λ r. ⌜ r ≡ (safepointFlags flags || eqb passes 0) ⌝ }
 {
@@ -45,7 +45,7 @@ fn argument_stands(flags: u32, passes: u32) -> bool
     is_safepoint_terminator(flags)
 }
 
-// Whether an edge argument names a value of the file, or none.
+// Whether an edge argument, by its words 2 and 3, names a value of the file, or none.
 fn argument_in_file(passes: u32, value: u32, values: usize) -> bool
     ensures { λ r. ⌜ r ≡ cond (eqb passes 0) (ltb value values) true ⌝ }
 {
@@ -138,7 +138,7 @@ pub struct Standing {
 
 // Whether the records of a file of so many values and blocks name none that it does not have; and whether every one may stand
 // where it does, and a terminator ends the file. It goes over all of them whatever it finds, but for the values, which stand
-// first and may, name nothing and define nothing; the table then has how often each value is defined.
+// first, where they may, and name and define nothing; the table then has how often each value is defined.
 pub fn all_stand(s: &[u8], counts: &mut [u32], values: usize, blocks: usize) -> Standing
     requires { ⌜ Countable (now s) (now counts) × (values ≡ length (functionIn (now s) .values)) × (blocks ≡ length (functionIn (now s) .blocks)) ⌝ }
     ensures { λ r. ⌜ (r .in_file ≡ numbersInFile (functionIn (now (s .entry)))) × (r .stands ≡ standing 2 (records (now (s .entry)))) × (now (counts .exit) ≡ notedAll (now (counts .entry)) (records (now (s .entry)))) ⌝ }

@@ -37,7 +37,7 @@ fn wide(x: u8) -> usize
 }
 
 impl Worklist {
-    // All blocks of a list, the first on top: as if the last were pushed first.
+    // The first so many blocks of a list, its first on top: as if the last of them were pushed first.
     pub fn stacked(order: &[usize], count: usize) -> Worklist
         requires { ⌜ (count ≤ length (now order)) × Stacked (take count (now order)) ⌝ }
         ensures { λ r. ⌜ (entries r ≡ take count (now (order .entry))) × Kept r ⌝ }
