@@ -1,11 +1,10 @@
 // Refusal 8: a marked context in a reachable block.
 ghost use mathlib.Core.Path.{_≡_};
-ghost use mathlib.Core.Bool.{true, _&&_};
+ghost use mathlib.Core.Bool.{true};
 ghost use Prim.Native.Nat.{_<_, _≤_};
 ghost use lib.ListN.{length};
-ghost use lib.Dec.{eqb};
 ghost use Rattle.rules.specs.Lists.{any};
-ghost use Rattle.rules.specs.Records.{encode, kind, recordAt, recordCount, records};
+ghost use Rattle.rules.specs.Records.{recordCount, records};
 ghost use Rattle.rules.specs.File.{named, ordered, functionIn};
 ghost use Rattle.rules.specs.Graph.{isMarked};
 ghost use Rattle.rules.specs.Refusals.{markedContext};
@@ -14,34 +13,25 @@ ghost use Rattle.graph.specs.Tails.{TailsLast, TailLast};
 ghost use Rattle.graph.specs.Links.{Walked};
 ghost use Rattle.graph.specs.Tables.{Given};
 ghost use Rattle.acceptance.specs.Marked.{blockMarked};
-use graph::edges::tail_from;
-use records::in_order::kind_at;
 use records::in_order::words_at;
 use records::values::is_marked;
 
-// Whether the record at place i is a context that is marked.
-fn is_marked_context(s: &[u8], i: usize) -> bool
-    requires { ⌜ (i < recordCount (now s)) × (ordered 0 (records (now s)) ≡ true) ⌝ }
-    ensures { λ r. ⌜ r ≡ (eqb (kind (recordAt (now (s .entry)) i)) 9 && isMarked (functionIn (now (s .entry))) (encode (recordAt (now (s .entry)) i) .second)) ⌝ }
-{
-    if kind_at(s, i) == 9 {
-        let w = words_at(s, i);
-        return is_marked(s, w.second);
-    }
-    false
-}
-
-// Whether a marked context stands from a place on and before the block's end, where contexts stand in the block's tail.
+// Whether a marked context stands from a place on and before the block's end. Contexts stand last in a block, so they are read from
+// its end, and nothing else is.
 fn marked_between(s: &[u8], start: usize, end: usize) -> bool
     requires { ⌜ (ordered 0 (records (now s)) ≡ true) × (start ≤ end) × (end ≤ recordCount (now s)) × TailLast (now s) start end ⌝ }
     ensures { λ r. ⌜ r ≡ any (isMarked (functionIn (now (s .entry)))) (named 9 (between (now (s .entry)) start end)) ⌝ }
 {
-    let mut i = tail_from(s, start, end);
-    while i < end {
-        if is_marked_context(s, i) {
+    let mut i = end;
+    while i > start {
+        let w = words_at(s, i - 1);
+        if w.kind != 9 {
+            return false;
+        }
+        if is_marked(s, w.second) {
             return true;
         }
-        i += 1;
+        i -= 1;
     }
     false
 }

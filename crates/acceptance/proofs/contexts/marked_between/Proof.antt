@@ -1,59 +1,76 @@
--- `acceptance::contexts::marked_between` meets its contract.
+-- `acceptance::contexts::marked_between` meets its contract. The invariant: no marked context stands from place i on.
 use borrow.Author.Needs.{needs}
-use Prim.Native.Nat.{_≤_, _-_, _+_}
-use mathlib.Core.Path.{_≡_, sym, ap, _∙_}
-use mathlib.Core.Bool.{true, false, _||_}
+use Prim.Native.Nat.{_≤_, _-_}
+use mathlib.Core.Path.{_≡_, sym, ap, subst, _∙_}
+use mathlib.Core.Bool.{false, _||_}
 use native.Mathlib.Omega.{arith}
-use Rattle.rules.specs.Records.{encode, recordAt}
-use Rattle.acceptance.proofs.MarkedContexts.{isMarkedContext, markedBetween, marked-more, marked-none, marked-behind}
+use lib.Dec.{T}
+use Rattle.acceptance.proofs.MarkedContexts.{markedBetween, marked-none, marked-behind, marked-before, marked-context, context-none}
 use Rattle.acceptance.proofs.contexts.marked_between.Statement.{statement}
 use Rattle.acceptance.proofs.contexts.marked_between.Tie as tie
 
 abbrev Inv-loop : tie.InvT-loop
-Inv-loop s start end i₀ i = (i ≤ end) × (markedBetween s i end ≡ markedBetween s start end)
+Inv-loop s start end i₀ i = (start ≤ i) × (i ≤ end) × (markedBetween s i end ≡ false)
 
 abbrev μ-loop : tie.MeasureT-loop
-μ-loop s start end i₀ i = end - i
-
-tail-from-requires : tie.Need-tail-from-requires Inv-loop μ-loop
-tail-from-requires c κs = search needs
+μ-loop s start end i₀ i = i
 
 loop-holds : tie.Need-loop-holds Inv-loop μ-loop
-loop-holds c =
-    let start = c .before .before in
-    let tail = c .tail-from in
-    let place = tail .ensures in
-    (place .1, marked-behind (start .args .s .now) (start .args .start) (tail .result) (start .args .end) (place .0) (place .1) (start .pre .2) (place .2))
+loop-holds c = let start = c .before in (start .pre .1, omega arith, marked-none (start .args .s .now) (start .args .end) (start .args .end) (omega arith))
 
-is-marked-context-requires : tie.Need-is-marked-context-requires Inv-loop μ-loop
-is-marked-context-requires c κs = search needs
+sub-words-at : tie.Need-sub-words-at Inv-loop μ-loop
+sub-words-at c = search needs
+
+words-at-requires : tie.Need-words-at-requires Inv-loop μ-loop
+words-at-requires c κs = let start = c .before .before .before in (omega (arith, c .before .loop .inv .1, start .pre .2, c .loop-test .taken), start .pre .0)
 
 returns : tie.Need-returns Inv-loop μ-loop
 returns c =
     let start = c .before .before .before .before .before .before in
+    let loop = c .before .before .before .before .loop in
     let s = start .args .s .now in
-    let i = c .before .before .before .loop .i in
-    let here : isMarkedContext s (encode (recordAt s i)) ≡ true =
-    sym (c .before .is-marked-context .ensures) ∙ c .if1 .taken in
-    sym (ap (λ b. b || markedBetween s (i + 1) (start .args .end)) here) ∙ sym (marked-more s i (start .args .end) (c .before .before .loop-test .taken) (start .pre .2)) ∙ c .before .before .before .loop .inv .1
+    let some = c .before .before .before .loop-test .taken in
+    let none =
+    context-none s (subst T (sym (start .pre .0)) tt) (start .args .start) (start .args .end) (start .pre .2) (start .pre .3) (loop .i - 1) (omega (arith, loop .inv .1, some))
+    (λ e. c .if1 .taken (ap (λ w. w .kind) (c .before .before .words-at .ensures) ∙ e)) in
+    sym (marked-behind s (start .args .start) (loop .i) (start .args .end) (loop .inv .0) (loop .inv .1) (start .pre .2) (λ j l m. none j l (omega (arith, m, some))) ∙ loop .inv .2)
 
-add-i : tie.Need-add-i Inv-loop μ-loop
-add-i c = search needs
+is-marked-requires : tie.Need-is-marked-requires Inv-loop μ-loop
+is-marked-requires c κs = search needs
+
+returns-2 : tie.Need-returns-2 Inv-loop μ-loop
+returns-2 c =
+    let start = c .before .before .before .before .before .before .before .before in
+    let loop = c .before .before .before .before .before .before .loop in
+    let s = start .args .s .now in
+    let w = c .before .before .before .before .words-at in
+    let some = c .before .before .before .before .before .loop-test .taken in
+    let here = marked-context s (loop .i) (start .args .end) (omega (arith, some)) (loop .inv .1) (start .pre .2) (w .result) (w .ensures) (c .before .before .if1 .left) (c .before .is-marked .ensures) in
+    sym (marked-before s (start .args .start) (loop .i - 1) (start .args .end) (omega (arith, some)) (omega (arith, loop .inv .1)) (start .pre .2)
+    (here ∙ ap (λ b. b || markedBetween s (loop .i) (start .args .end)) (c .if2 .taken)))
+
+sub-i : tie.Need-sub-i Inv-loop μ-loop
+sub-i c = search needs
 
 loop-less : tie.Need-loop-less Inv-loop μ-loop
 loop-less c = search needs
 
 loop-again : tie.Need-loop-again Inv-loop μ-loop
 loop-again c =
-    let start = c .before .before .before .before .before .before in
+    let start = c .before .before .before .before .before .before .before .before in
+    let loop = c .before .before .before .before .before .before .loop in
     let s = start .args .s .now in
-    let i = c .before .before .before .loop .i in
-    let here : isMarkedContext s (encode (recordAt s i)) ≡ false =
-    sym (c .before .is-marked-context .ensures) ∙ c .if1 .left in
-    (omega arith, sym (ap (λ b. b || markedBetween s (i + 1) (start .args .end)) here) ∙ sym (marked-more s i (start .args .end) (c .before .before .loop-test .taken) (start .pre .2)) ∙ c .before .before .before .loop .inv .1)
+    let w = c .before .before .before .before .words-at in
+    let some = c .before .before .before .before .before .loop-test .taken in
+    let here = marked-context s (loop .i) (start .args .end) (omega (arith, some)) (loop .inv .1) (start .pre .2) (w .result) (w .ensures) (c .before .before .if1 .left) (c .before .is-marked .ensures) in
+    (omega (arith, some), omega (arith, loop .inv .1), here ∙ ap (λ b. b || markedBetween s (loop .i) (start .args .end)) (c .if2 .left) ∙ loop .inv .2)
 
-returns-2 : tie.Need-returns-2 Inv-loop μ-loop
-returns-2 c = sym (marked-none (c .before .before .before .before .args .s .now) (c .before .loop .i) (c .before .before .before .before .args .end) (omega arith)) ∙ c .before .loop .inv .1
+returns-3 : tie.Need-returns-3 Inv-loop μ-loop
+returns-3 c =
+    let start = c .before .before .before in
+    let loop = c .before .loop in
+    let all : start .args .start ≡ loop .i = omega (arith, loop .inv .0, c .loop-test .left) in
+    sym (ap (λ j. markedBetween (start .args .s .now) j (start .args .end)) all ∙ loop .inv .2)
 
 pub marked-between-spec : {M : Type 1} → statement M
 marked-between-spec =
@@ -61,11 +78,13 @@ marked-between-spec =
     (tie.spec
     Inv-loop
     μ-loop
-    tail-from-requires
     loop-holds
-    is-marked-context-requires
+    sub-words-at
+    words-at-requires
     returns
-    add-i
+    is-marked-requires
+    returns-2
+    sub-i
     loop-less
     loop-again
-    returns-2)
+    returns-3)
