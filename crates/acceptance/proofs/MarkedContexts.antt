@@ -23,7 +23,7 @@ use Rattle.records.specs.Places.{rest, rest-next}
 use Rattle.records.specs.InOrder.{chain}
 use Rattle.records.specs.Leading.{chain-next}
 use Rattle.graph.specs.Between.{between, between-none, between-next}
-use Rattle.graph.specs.Tails.{TailLast}
+use Rattle.graph.specs.Tails.{TailLast, stays-on}
 use Rattle.graph.specs.Blocks.{contexts-by-place}
 use Rattle.graph.specs.Links.{Walked}
 use Rattle.graph.specs.Tables.{Given}
@@ -121,13 +121,9 @@ module _ (s : List ℕ) where
         (or-elim (eqb k 4) (eqb k 9) (λ e. absurd (let four = eqb→eq k 4 e in omega arith)) (eqb→eq k 9))
         (passes-at (λ j. eqb j 2 || (eqb j 4 || eqb j 9)) (getD followers 9 []) tt k follow)
 
-    context-on : (n i j : ℕ) → i + n ≡ j → start ≤ i → j < end → kind (recordAt s i) ≡ 9 → kind (recordAt s j) ≡ 9
-    context-on zero i j e l m nine = let same : i ≡ j = omega arith in ap (λ (p : ℕ). kind (recordAt s p)) (sym same) ∙ nine
-    context-on (suc n) i j e l m nine = context-on n (i + 1) j (omega arith) (omega arith) m (context-next i l (omega arith) nine)
-
     -- so before a record that is none there is none.
     pub context-none : (r : ℕ) → r < end → kind (recordAt s r) ≢ 9 → (i : ℕ) → start ≤ i → i < r + 1 → kind (recordAt s i) ≢ 9
-    context-none r l other i m k nine = other (context-on (r - i) i r (omega arith) m l nine)
+    context-none r l other i m k nine = other (stays-on (λ j. kind (recordAt s j) ≡ 9) start end context-next (r - i) i r (omega arith) m l nine)
 
   -- a block has one if one stands between its places
   pub blockMarked-by-table :

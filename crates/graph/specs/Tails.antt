@@ -1,7 +1,7 @@
 -- The tail of a block: its edges, their arguments and its contexts, the records of kind 7 and above. In a sound file they
 -- stand behind the rest of the block, so the first of them is found from the block's end.
 use Prim.Native.Nat.{ℕ, zero, suc, _+_, _-_, _<_, _≤_}
-use mathlib.Core.Path.{_≡_, refl, ap, _∙_}
+use mathlib.Core.Path.{_≡_, refl, ap, subst, _∙_}
 use mathlib.Core.Logic.{_≢_}
 use mathlib.Core.List.{List, _∷_, map}
 use native.Mathlib.Omega.{arith}
@@ -25,24 +25,25 @@ TailLast s p q = (i : ℕ) → p ≤ i → i + 1 < q → 7 ≤ kind (recordAt s 
 abbrev pub NoTail : List ℕ → ℕ → ℕ → Type 0
 NoTail s p q = (i : ℕ) → p ≤ i → i < q → kind (recordAt s i) < 7
 
+-- What goes from each place to the next, between two places, goes on to every one behind it.
+pub stays-on :
+    (P : ℕ → Type 0) (p q : ℕ) → ((i : ℕ) → p ≤ i → i + 1 < q → P i → P (i + 1)) → (n i j : ℕ) → i + n ≡ j → p ≤ i → j < q → P i → P j
+stays-on P p q step zero i j e l m here =
+    let same : i ≡ j = omega arith in
+    subst P same here
+stays-on P p q step (suc n) i j e l m here = stays-on P p q step n (i + 1) j (omega arith) (omega arith) m (step i l (omega arith) here)
+
 module _ (s : List ℕ) where
   -- from a later place on it is so too
   pub tailLast-later : (p r q : ℕ) → p ≤ r → TailLast s p q → TailLast s r q
   tailLast-later p r q l h i m = h i (omega arith)
-
-  -- where one stands, all stand that are behind it
-  tail-on : (p q : ℕ) → TailLast s p q → (n i j : ℕ) → i + n ≡ j → p ≤ i → j < q → 7 ≤ kind (recordAt s i) → 7 ≤ kind (recordAt s j)
-  tail-on p q h zero i j e l m k =
-      let same : j ≡ i = omega arith in
-      rw same k
-  tail-on p q h (suc n) i j e l m k = tail-on p q h n (i + 1) j (omega arith) (omega arith) m (h i l (omega arith) k)
 
   -- so before one that is not of the tail none stands
   pub tail-none : (p r q : ℕ) → TailLast s p q → r < q → kind (recordAt s r) < 7 → NoTail s p (r + 1)
   tail-none p r q h l other i m k =
       test-elim (ltb (kind (recordAt s i)) 7) (ltb→lt (kind (recordAt s i)) 7)
       (λ t.
-      let last = tail-on p q h (r - i) i r (omega arith) m l (nltb→le (kind (recordAt s i)) 7 t) in
+      let last = stays-on (λ k. 7 ≤ kind (recordAt s k)) p q h (r - i) i r (omega arith) m l (nltb→le (kind (recordAt s i)) 7 t) in
       absurd (omega arith))
 
   -- What records of a tail's kind name is found behind places where none stands.

@@ -1,7 +1,7 @@
 // Edges: what each asks to be loaded before its instruction, the edge itself, and its landing.
 ghost use mathlib.Core.Path.{_≡_};
 ghost use mathlib.Core.Bool.{true};
-ghost use Prim.Native.Nat.{_+_, _<_, _≤_};
+ghost use Prim.Native.Nat.{_<_, _≤_};
 ghost use lib.ListN.{length};
 ghost use Rattle.rules.specs.Records.{recordCount};
 ghost use Rattle.writing_edges.specs.Edges.{edgeAnd, landingHead, landingJump, landingItems, landingAnd, edgePart, edgePartAt};
