@@ -1,4 +1,6 @@
 // Whether a file is refused by 2 to 8, and the tables that later layers read an accepted file by.
+#![tactic(auto)]
+
 pub mod contexts;
 pub mod survey;
 pub mod verdict;

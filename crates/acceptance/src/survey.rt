@@ -13,14 +13,14 @@ use graph::walk::post_order;
 use rules::Verdict;
 
 // How many blocks a file has, and how many of them are reachable.
-#[derive(Drop)]
+#[derive(Clone, Copy)]
 pub struct BlockCounts {
     pub all: usize,
     pub reachable: usize,
 }
 
 // What is said of a file, and its blocks counted if it was walked.
-#[derive(Drop)]
+#[derive(Clone, Copy)]
 pub struct SurveyAnswer {
     pub verdict: Verdict,
     pub blocks: BlockCounts,

@@ -1,1 +1,2 @@
 // Rewriting makes related trees: theorems about the definitions of crate rules, in specs/. There is no code here.
+#![tactic(auto)]

@@ -1,4 +1,6 @@
 // `LivenessAnalysis`, over lent tables. The live sets of an accepted file: predecessors are linked, each block's uses and kills are read, and the process runs.
+#![tactic(auto)]
+
 ghost use Rattle.analysis.specs.Analysis.{live_tables, Analysable, Analysed};
 
 use acceptance::survey::BlockCounts;

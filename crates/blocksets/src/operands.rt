@@ -16,7 +16,7 @@ use rows::{insert, insert_if, remove};
 use rules::{EdgeArgument, Record};
 
 // A record defines a value, uses one, or does neither. A context is no use: the rule adds arguments and edge arguments only.
-#[derive(Drop)]
+#[derive(Clone, Copy)]
 pub enum Operand {
     Defined(u32),
     Used(u32),

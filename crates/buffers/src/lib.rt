@@ -1,4 +1,6 @@
 // Lent buffers are cleared before anything is written: what is not written is 0, also where a call is refused.
+#![tactic(auto)]
+
 ghost use Rattle.std.specs.Prelude.{◌≡◌, length, replicate};
 
 // Every word of a table becomes 0.

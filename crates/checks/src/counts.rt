@@ -21,7 +21,7 @@ pub fn one_if_same(a: u32, b: u32) -> u32
 }
 
 // How many values, blocks, instructions and edges a file has, by the first words of its records alone.
-#[derive(Drop)]
+#[derive(Clone, Copy)]
 pub struct KindCounts {
     pub values: usize,
     pub blocks: usize,

@@ -1,4 +1,6 @@
 // How many records the rewritten function has, from the numbers planned for it and before anything is written.
+#![tactic(auto)]
+
 ghost use Rattle.std.specs.Prelude.{◌≡◌, true, ◌*◌, ◌≤◌, ◌<◌, length};
 ghost use Rattle.rules.specs.Lists.{up_from};
 ghost use Rattle.rules.specs.Limits.{row_words, largest_records, largest_blocks, largest_instructions};

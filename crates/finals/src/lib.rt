@@ -1,4 +1,6 @@
 // The final records: a part of the input or a part of the output, by the answer of a rewriting.
+#![tactic(auto)]
+
 ghost use Rattle.std.specs.Prelude.{◌≡◌};
 ghost use Rattle.outcomes.specs.Outcomes.{FinalAllows};
 ghost use Rattle.finals.specs.Finals.{first_records};

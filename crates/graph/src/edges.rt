@@ -8,7 +8,7 @@ ghost use Rattle.graph.specs.NextEdge.{edge_from};
 use records::in_order::{kind_at, words_at};
 
 // An edge by its tag, which is one more than its target, and the place behind its record; the tag 0 is no edge.
-#[derive(Drop)]
+#[derive(Clone, Copy)]
 pub struct NextEdge {
     pub tag: usize,
     pub behind: usize,

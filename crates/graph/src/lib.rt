@@ -1,4 +1,6 @@
 // The tables of places, the post-order walk and the lists of predecessors: what every later layer reads a file by.
+#![tactic(auto)]
+
 pub mod edges;
 pub mod places;
 pub mod predecessors;

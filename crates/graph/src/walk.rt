@@ -6,7 +6,7 @@ ghost use Rattle.graph.specs.Tables.{tables, finish_top, enter_block, turn_on, R
 use crate::edges::next_edge_in_tail;
 
 // How many blocks are open, and how many are done.
-#[derive(Drop)]
+#[derive(Clone, Copy)]
 struct At {
     depth: usize,
     count: usize,

@@ -1,13 +1,15 @@
 // Slot holders: a lent table of entries, entry k for slot k. A covered core says what taking and giving make of one entry;
 // thin functions read, change and store an entry of the table where it stands; one function replays planning's steps over it.
 // What a lent table of entries needs of a proof by hand stays in this crate: callers above pass numbers.
+#![tactic(auto)]
+
 pub mod changes;
 pub mod entries;
 pub mod table;
 
 // Who holds a slot: the slot's size, 0 for one that is not made yet; the value that was given it last; and whether that
 // value holds it still.
-#[derive(Drop)]
+#[derive(Clone, Copy)]
 pub struct Holder {
     pub size: u32,
     pub owner: u32,
@@ -15,7 +17,7 @@ pub struct Holder {
 }
 
 // What a step does to the holders: a value of a size takes the slot, or the slot is given back, or neither.
-#[derive(Drop)]
+#[derive(Clone, Copy)]
 pub struct Change {
     pub takes: bool,
     pub gives: bool,

@@ -12,7 +12,7 @@ use crate::laying::put_blocks;
 use crate::tables::{put_new_values, put_slots};
 
 // How many there are: values and blocks of the file, new values, and slots.
-#[derive(Drop)]
+#[derive(Clone, Copy)]
 pub struct Counts {
     pub values: usize,
     pub blocks: usize,

@@ -22,7 +22,7 @@ use rules::ROW_WORDS;
 
 // How far the walk back over a block has come: where the arguments that wait for their instruction end, and one more than
 // its number.
-#[derive(Drop)]
+#[derive(Clone, Copy)]
 struct Spot {
     middle: usize,
     number: usize,

@@ -1,4 +1,6 @@
 // The lists of all safepoints as rows, from the final live-out, and which values are spilled.
+#![tactic(auto)]
+
 pub mod blocks;
 pub mod firsts;
 pub mod instructions;

@@ -21,7 +21,7 @@ use spiller::instructions::{InstructionSpot, plan_instruction};
 
 // Where a block's records stand: the first behind its own, its first instruction, the place behind it, and the number
 // behind its last instruction's.
-#[derive(Drop)]
+#[derive(Clone, Copy)]
 pub struct BlockSpot {
     pub start: usize,
     pub front: usize,
@@ -80,7 +80,7 @@ pub fn plan_instructions(
 }
 
 // A block by its number, and the number behind its last instruction's.
-#[derive(Drop)]
+#[derive(Clone, Copy)]
 pub struct BlockNumber {
     pub block: usize,
     pub behind: usize,

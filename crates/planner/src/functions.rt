@@ -53,7 +53,7 @@ pub fn plan_blocks(
 
 // How large a function is: the size of an address, how many values and blocks the file has, and how many blocks are
 // reachable.
-#[derive(Drop)]
+#[derive(Clone, Copy)]
 pub struct FunctionSize {
     pub pointer: u32,
     pub values: usize,

@@ -11,7 +11,7 @@ use rows::contains;
 use rules::{EdgeArgument, LARGEST_VALUES, Record};
 
 // The value that a record names, if it names one.
-#[derive(Drop)]
+#[derive(Clone, Copy)]
 pub enum Operand {
     Value(u32),
     Nothing,

@@ -1,4 +1,6 @@
 // What the program does with the bytes it has read, up to the writing.
+#![tactic(auto)]
+
 ghost use Rattle.std.specs.Prelude.{◌≡◌, length};
 ghost use Rattle.rules.specs.Lists.{padded};
 ghost use Rattle.rules.specs.Refusals.{refusal_number};
@@ -19,7 +21,7 @@ pub const PROGRAM_OUTPUT: usize = 65536;
 const PROGRAM_POINTER: u32 = 8;
 
 // A line of text: the first bytes of an array, with zeros behind them.
-#[derive(Drop)]
+#[derive(Clone, Copy)]
 pub struct Line {
     pub bytes: [u8; 16],
     pub count: usize,

@@ -1,4 +1,6 @@
 // One record: its words and bytes, read and written.
+#![tactic(auto)]
+
 ghost use Rattle.std.specs.Prelude.{◌≡◌, ◌+◌, ◌*◌, ◌%◌, ◌≤◌, ◌<◌, length, drop, ◌++◌};
 ghost use Rattle.rules.specs.Limits.{record_bytes};
 ghost use Rattle.rules.specs.Records.{word_at, log2, edge_argument, bit, words as words_are, encode, bytes_of_word, bytes_of_record};

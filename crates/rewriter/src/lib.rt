@@ -1,5 +1,7 @@
 // The service of rewriting: the function with its stores, reloads, maps and landings. It takes any bytes, owns the tables that it needs, and
 // asks nothing of its caller.
+#![tactic(auto)]
+
 ghost use Rattle.std.specs.Prelude.{◌≡◌, ◌||◌, eqb, length, replicate};
 ghost use Rattle.outcomes.specs.Outcomes.{RewritingAllows};
 ghost use Rattle.acceptance.specs.Survey.{Indexed};

@@ -1,5 +1,7 @@
 // Live sets as rows of words: value v at bit v mod 64 of word v / 64 of its row. Every function says what it does to the
 // sets of a whole table, `rows`; that fixes each word of the table, to its end (`rows_same` of specs/Tables.antt).
+#![tactic(auto)]
+
 ghost use Rattle.std.specs.Prelude.{◌≡◌, true, false, ◌&&◌, ◌||◌, not, cond, ◌∷◌, [], ℕ, ◌+◌, ◌*◌, ◌/◌, ◌%◌, ◌^◌, ◌<◌, ◌≤◌, min, eqb};
 ghost use Rattle.rules.specs.Limits.{row_words};
 ghost use Rattle.rules.specs.Lists.{update, union, adding, removing};

@@ -1,8 +1,9 @@
 // The types that code and definitions share, and the limits. A definition in specs/ speaks of these very types, so a
 // contract needs no translation.
+#![tactic(auto)]
 
 // What an edge passes to a parameter of its target.
-#[derive(Drop)]
+#[derive(Clone, Copy)]
 pub enum EdgeArgument {
     Value(u32),
     // `TryCallRet`, by its index
@@ -12,7 +13,7 @@ pub enum EdgeArgument {
 }
 
 // One record of a file, of any of the fifteen kinds.
-#[derive(Drop)]
+#[derive(Clone, Copy)]
 pub enum Record {
     Value {
         size: u32,
@@ -57,7 +58,7 @@ pub enum Record {
 }
 
 // The four words of a record: its kind, and words 2, 3, 4.
-#[derive(Drop)]
+#[derive(Clone, Copy)]
 pub struct Words {
     pub kind: u32,
     pub second: u32,
@@ -66,7 +67,7 @@ pub struct Words {
 }
 
 // Whether a call is answered, and if not, why; `refusal_number` of specs/Refusals.antt gives document 01's number.
-#[derive(Drop)]
+#[derive(Clone, Copy)]
 pub enum Verdict {
     Accepted,
     PointerSize,
@@ -83,7 +84,7 @@ pub enum Verdict {
 }
 
 // What liveness answers, beside its two lent tables.
-#[derive(Drop)]
+#[derive(Clone, Copy)]
 pub struct LivenessAnswer {
     pub verdict: Verdict,
     pub visits: u32,
@@ -91,14 +92,14 @@ pub struct LivenessAnswer {
 }
 
 // What the list of one safepoint answers, beside the lent words. Of a list that does not fit, count is what it needs.
-#[derive(Drop)]
+#[derive(Clone, Copy)]
 pub struct ListAnswer {
     pub verdict: Verdict,
     pub count: u32,
 }
 
 // What rewriting answers, beside the lent output. Of an output that does not fit, records is what it needs.
-#[derive(Drop)]
+#[derive(Clone, Copy)]
 pub struct RewritingAnswer {
     pub verdict: Verdict,
     pub records: u32,

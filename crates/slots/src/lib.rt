@@ -1,9 +1,11 @@
 // The sizes that a slot can have, by class.
+#![tactic(auto)]
+
 ghost use Rattle.std.specs.Prelude.{◌≡◌, ◌<◌};
 ghost use Rattle.slots.specs.Classes.{class_of, index};
 
 // The class of a slot's size, as the Rust has them: their names are in bits.
-#[derive(Drop)]
+#[derive(Clone, Copy)]
 pub enum SlotSize {
     Size8,
     Size16,
@@ -13,7 +15,7 @@ pub enum SlotSize {
 }
 
 // What a size in bytes is for slots: a class, or none, where the Rust panics and rewriting refuses with 9.
-#[derive(Drop)]
+#[derive(Clone, Copy)]
 pub enum SizeClass {
     Class(SlotSize),
     NoClass,

@@ -1,5 +1,7 @@
 // Liveness of a whole file: document 01's process over lent tables, with its visits and pushes. Rows are by block number,
 // and a block stands for its index.
+#![tactic(auto)]
+
 ghost use Rattle.std.specs.Prelude.{◌≡◌, true, ◌∷◌, [], ℕ, ◌≤◌, ◌<◌, length, get_or};
 ghost use Rattle.rules.specs.Lists.{empty};
 ghost use Rattle.rules.specs.Records.{record_at, record_count, records};
@@ -21,7 +23,7 @@ use rows::{count, join, transfer};
 use worklist::Worklist;
 
 // How far the process has come: the blocks still to visit, and the visits and pushes so far.
-#[derive(Drop)]
+#[derive(Clone, Copy)]
 struct Progress {
     worklist: Worklist,
     visits: u32,
@@ -29,7 +31,7 @@ struct Progress {
 }
 
 // The visits and pushes of the whole process.
-#[derive(Drop)]
+#[derive(Clone, Copy)]
 pub struct LivenessCounts {
     pub visits: u32,
     pub pushes: u32,

@@ -1,4 +1,6 @@
 // Refusal 7: the faults of a file in order that its records show only together; and in the pass for it refusal 5 and the counts for 6.
+#![tactic(auto)]
+
 ghost use Rattle.std.specs.Prelude.{◌≡◌, not, length};
 ghost use Rattle.rules.specs.Records.{records};
 ghost use Rattle.rules.specs.File.{function_in};

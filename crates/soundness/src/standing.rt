@@ -54,7 +54,7 @@ fn argument_in_file(passes: u32, value: u32, values: usize) -> bool
 
 // What is found of one record: whether the numbers that it names are in the file, whether it may stand where it does, and the
 // flags of the last instruction in front of what stands behind it.
-#[derive(Drop)]
+#[derive(Clone, Copy)]
 struct Judged {
     in_file: bool,
     stands: bool,
@@ -129,7 +129,7 @@ fn still(held: bool, holds: bool) -> bool
 
 // What one pass over the records of a file finds: whether the numbers that they name are in it, and whether they stand where
 // they may.
-#[derive(Drop)]
+#[derive(Clone, Copy)]
 pub struct Standing {
     pub in_file: bool,
     pub stands: bool,

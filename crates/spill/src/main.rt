@@ -1,4 +1,6 @@
 // The program: a function file from standard input, rewritten for pointers of 8 bytes, to standard output.
+#![tactic(auto)]
+
 use libc::{STDIN_FILENO, STDOUT_FILENO};
 use program::{PROGRAM_INPUT, PROGRAM_OUTPUT, refused_line, respond, to_write};
 

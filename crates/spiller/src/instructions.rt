@@ -17,7 +17,7 @@ use planning::runs::{plan_definitions, plan_uses};
 use planning_edges::edges::plan_edges;
 
 // Where an instruction stands: its own place, the one behind its records, and its number.
-#[derive(Drop)]
+#[derive(Clone, Copy)]
 pub struct InstructionSpot {
     pub place: usize,
     pub end: usize,

@@ -1,5 +1,7 @@
 // The services under C names, for the static library. An answer is a struct of plain numbers in C's layout; `include/threshskiff.h`
 // has the same for C, and what each function promises in words.
+#![tactic(auto)]
+
 ghost use Rattle.std.specs.Prelude.{◌≡◌, length};
 ghost use Rattle.rules.specs.Records.{bit};
 ghost use Rattle.threshskiff.specs.Numbers.{verdict_of};
@@ -15,7 +17,7 @@ use services::liveness::liveness;
 
 // What liveness answers: the number of the refusal, 0 where there is none, and two counts.
 #[repr(C)]
-#[derive(Drop)]
+#[derive(Clone, Copy)]
 pub struct ThreshskiffLiveness {
     pub refusal: u32,
     pub visits: u32,
@@ -24,7 +26,7 @@ pub struct ThreshskiffLiveness {
 
 // What the list of one safepoint answers.
 #[repr(C)]
-#[derive(Drop)]
+#[derive(Clone, Copy)]
 pub struct ThreshskiffList {
     pub refusal: u32,
     pub count: u32,
@@ -32,7 +34,7 @@ pub struct ThreshskiffList {
 
 // What rewriting answers; `unchanged` is 1 or 0.
 #[repr(C)]
-#[derive(Drop)]
+#[derive(Clone, Copy)]
 pub struct ThreshskiffRewriting {
     pub refusal: u32,
     pub records: u32,
@@ -45,7 +47,7 @@ pub struct ThreshskiffRewriting {
 
 // Where the final records are: `length` bytes from `offset` of the output, where `of_output` is 1, or of the input, where it is 0.
 #[repr(C)]
-#[derive(Drop)]
+#[derive(Clone, Copy)]
 pub struct ThreshskiffFinal {
     pub of_output: u32,
     pub offset: usize,

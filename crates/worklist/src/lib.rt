@@ -2,6 +2,8 @@
 // blocks. `entries` of specs/Entries.antt is what stands on it, top first; a mark for each block says whether it does, so that a push
 // looks only for a block that is there. It is changed where it stands, by `push` and `pop`, which are thin: a by-value core does the
 // work. `pushing` and `popping` take a worklist by value, for callers that lend nothing.
+#![tactic(auto)]
+
 ghost use Rattle.std.specs.Prelude.{◌≡◌, false, ◌∷◌, ◌<◌, ◌≤◌, length, take};
 ghost use Rattle.rules.specs.Limits.{largest_blocks};
 ghost use Rattle.rules.specs.Lists.{empty};
@@ -13,7 +15,7 @@ use rules::LARGEST_BLOCKS;
 
 // The blocks, the lowest entry first, how many of the places are entries, and the marks: bit b is set where block b is an entry.
 // A block's number fits a byte.
-#[derive(Drop)]
+#[derive(Clone, Copy)]
 pub struct Worklist {
     blocks: [u8; LARGEST_BLOCKS],
     count: usize,
@@ -21,7 +23,7 @@ pub struct Worklist {
 }
 
 // The entry that stood on top, and the others.
-#[derive(Drop)]
+#[derive(Clone, Copy)]
 pub struct Popped {
     pub block: usize,
     pub rest: Worklist,

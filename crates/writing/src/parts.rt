@@ -13,7 +13,7 @@ use records::values::size_of;
 use rules::{EdgeArgument, Record, Words};
 
 // The parts of the output: what is written for a record that names a value, and for an edge argument.
-#[derive(Drop)]
+#[derive(Clone, Copy)]
 pub enum Part {
     // slot address and load before a use
     Load,
@@ -33,7 +33,7 @@ pub enum Part {
 }
 
 // The records to be written.
-#[derive(Drop)]
+#[derive(Clone, Copy)]
 pub enum Written {
     Nothing,
     One(Record),

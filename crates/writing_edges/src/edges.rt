@@ -14,7 +14,7 @@ use writing::put::put;
 use writing::run::{next_place, put_parts};
 
 // The parts of the output that an edge has.
-#[derive(Drop)]
+#[derive(Clone, Copy)]
 pub enum EdgePart {
     // addresses and loads of its values before the instruction, where it has no landing
     Loads,

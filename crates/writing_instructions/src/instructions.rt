@@ -20,7 +20,7 @@ use writing_edges::edges::{EdgePart, put_edges};
 
 // Where an instruction's runs stand: its own place, its results behind its arguments, its edges and contexts behind them, and
 // where they end.
-#[derive(Drop)]
+#[derive(Clone, Copy)]
 pub struct InstructionRuns {
     pub place: usize,
     pub results: usize,
