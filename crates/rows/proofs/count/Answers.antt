@@ -1,13 +1,13 @@
 -- `rows::count` meets its contract. The invariant: what is counted and what is left are all members.
 use Prim.Native.Nat.{◌-◌}
 use native.Mathlib.Omega.{arith}
-use mathlib.Core.Logic.{⊎_elim}
 use mathlib.Core.Path.{◌≡◌, sym, ap, ◌∙◌}
 use borrow.Author.Rules.{rules}
 use Rattle.rows.proofs.Counting.{size_from-all, size_from-more, size_from-none}
 use Rattle.rows.specs.Rows.{rows}
 use Rattle.rules.specs.Records.{bit}
 use Rattle.rows.proofs.count.Goals as goal
+use Rattle.rows.proofs.count.Goals.{then-contains, else-contains}
 
 pub loop-v-init : goal.loop-v-init
 loop-v-init c =
@@ -20,10 +20,10 @@ loop-v-preserved c =
     let s = rows c.args.t.now c.args.row in
     let more = size_from-more v s (search rules) in
     let asked = sym c.contains.ensures in
-    ⊎_elim
-    (λ w. let one : bit (s v) ≡ 1 = ap bit (asked ∙ w.0.taken) in (search rules, omega arith, omega arith))
-    (λ w. let none : bit (s v) ≡ 0 = ap bit (asked ∙ w.0.left) in (search rules, omega arith, omega arith))
-    c.if-contains.branch
+    elim c.if-contains.branch [
+      | then-contains w ↦ let one : bit (s v) ≡ 1 = ap bit (asked ∙ w.if-contains.true) in (search rules, omega arith, omega arith)
+      | else-contains w ↦ let none : bit (s v) ≡ 0 = ap bit (asked ∙ w.if-contains.false) in (search rules, omega arith, omega arith)
+    ]
 
 pub returns : goal.returns
 returns c =
