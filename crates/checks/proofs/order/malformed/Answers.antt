@@ -19,7 +19,7 @@ returns-then-not-is_in_table c =
     let s = c.args.s.now in
     let at = c.loop-i in
     let w = c.four_words-w.result in
-    let out = sym c.is_in_table.ensures ∙ not-true c.is_in_table.result c.if-not-is_in_table.true in
+    let out = sym c.is_in_table.ensures ∙ c.if-not-is_in_table.true in
     let no = outside-follows s at.i w c.four_words-w.ensures out at.p at.invariant.1 in
     sym (ap not (sym (formed-all s) ∙ sym at.invariant.3 ∙ formed-order s at.p at.number at.i (encode (record_at s at.i)) refl (search rules) no))
 
@@ -28,7 +28,7 @@ may_follow-requires c =
     let s = c.args.s.now in
     let at = c.loop-i in
     let w = c.four_words-w.result in
-    let in_table = sym c.is_in_table.ensures ∙ not-false c.is_in_table.result c.if-not-is_in_table.false in
+    let in_table = sym c.is_in_table.ensures ∙ c.if-not-is_in_table.false in
     let small = kind-stands s at.i w c.four_words-w.ensures in_table in
     search rules
 
@@ -37,9 +37,9 @@ returns-then-not-may_follow c =
     let s = c.args.s.now in
     let at = c.loop-i in
     let w = c.four_words-w.result in
-    let in_table = sym c.is_in_table.ensures ∙ not-false c.is_in_table.result c.if-not-is_in_table.false in
+    let in_table = sym c.is_in_table.ensures ∙ c.if-not-is_in_table.false in
     let stands = words-stand s at.i w c.four_words-w.ensures in_table in
-    let no = sym c.may_follow.ensures ∙ not-true c.may_follow.result c.if-not-may_follow.true in
+    let no = sym c.may_follow.ensures ∙ c.if-not-may_follow.true in
     sym (ap not (sym (formed-all s) ∙ sym at.invariant.3 ∙ formed-order s at.p at.number at.i w stands (search rules) no))
 
 pub returns-then-not-numbered_as : goal.returns-then-not-numbered_as
@@ -47,9 +47,9 @@ returns-then-not-numbered_as c =
     let s = c.args.s.now in
     let at = c.loop-i in
     let w = c.four_words-w.result in
-    let in_table = sym c.is_in_table.ensures ∙ not-false c.is_in_table.result c.if-not-is_in_table.false in
+    let in_table = sym c.is_in_table.ensures ∙ c.if-not-is_in_table.false in
     let stands = words-stand s at.i w c.four_words-w.ensures in_table in
-    let no = sym c.numbered_as.ensures ∙ not-true c.numbered_as.result c.if-not-numbered_as.true in
+    let no = sym c.numbered_as.ensures ∙ c.if-not-numbered_as.true in
     sym (ap not (sym (formed-all s) ∙ sym at.invariant.3 ∙ formed-number s at.p at.number at.i w stands (search rules) no))
 
 pub overflow_add-number : goal.overflow_add-number
@@ -60,11 +60,11 @@ loop-i-preserved c =
     let s = c.args.s.now in
     let at = c.loop-i in
     let w = c.four_words-w.result in
-    let in_table = sym c.is_in_table.ensures ∙ not-false c.is_in_table.result c.if-not-is_in_table.false in
+    let in_table = sym c.is_in_table.ensures ∙ c.if-not-is_in_table.false in
     let small = kind-stands s at.i w c.four_words-w.ensures in_table in
     let stands = words-stand s at.i w c.four_words-w.ensures in_table in
-    let follows_on = sym c.may_follow.ensures ∙ not-false c.may_follow.result c.if-not-may_follow.false in
-    let numbered = sym c.numbered_as.ensures ∙ not-false c.numbered_as.result c.if-not-numbered_as.false in
+    let follows_on = sym c.may_follow.ensures ∙ c.if-not-may_follow.false in
+    let numbered = sym c.numbered_as.ensures ∙ c.if-not-numbered_as.false in
     let goes = formed-goes s at.p at.number at.i w stands (search rules) follows_on numbered in (
       search rules,
       search rules,
