@@ -28,9 +28,9 @@ loop-edge-preserved c =
     let loop = c.loop-edge in
     let link-edge = c.link_edge-count in
     let kept = link-edge.auto in (
-      kept.0 ∙ loop.invariant.0,
-      kept.1.0 ∙ loop.invariant.1,
-      kept.1.1.0 ∙ loop.invariant.2,
+      kept.first ∙ loop.invariant.0,
+      kept.from ∙ loop.invariant.1,
+      kept.next ∙ loop.invariant.2,
       linking-more c.args.s.now c.args.end c.args.p c.requires.1 _ _ _ loop.invariant.3 (omega arith) _ link-edge.ensures c.next_edge-edge.result c.next_edge-edge.ensures,
     )
 

@@ -42,8 +42,8 @@ loop-at-preserved c =
     let loop = c.loop-at in
     let turn = c.turn-at in
     let sized = loop.invariant.0 in
-    let kept = turn.auto.1.1 in (
-      record { order = kept.0 ∙ sized.order; index = kept.1.0 ∙ sized.index; stack = kept.1.1.0 ∙ sized.stack; next = kept.1.1.1.0 ∙ sized.next },
+    let kept = turn.auto in (
+      record { order = kept.order ∙ sized.order; index = kept.index ∙ sized.index; stack = kept.stack ∙ sized.stack; next = kept.next ∙ sized.next },
       turn-ready c.args.s.now c.args.places.now _ _ loop.invariant.1 opened turn.ensures,
     )
 
@@ -54,27 +54,27 @@ pub shape_of-index : goal.shape_of-index
 shape_of-index c =
     let enter = c.enter-at in
     let loop = c.loop-at in
-    loop.invariant.0.index ∙ enter.auto.1.0
+    loop.invariant.0.index ∙ enter.auto.index
 
 pub shape_of-stack : goal.shape_of-stack
 shape_of-stack c =
     let enter = c.enter-at in
     let loop = c.loop-at in
-    loop.invariant.0.stack ∙ enter.auto.1.1.0
+    loop.invariant.0.stack ∙ enter.auto.stack
 
 pub shape_of-next : goal.shape_of-next
 shape_of-next c =
     let enter = c.enter-at in
     let loop = c.loop-at in
-    loop.invariant.0.next ∙ enter.auto.1.1.1.0
+    loop.invariant.0.next ∙ enter.auto.next
 
 pub returns : goal.returns
 returns c =
     let enter = c.enter-at in
     let loop = c.loop-at in
     let sized = loop.invariant.0 in
-    let kept = enter.auto.1 in
+    let kept = enter.auto in
     end-numbered c.args.s.now c.args.places.now _
     (tables loop.order loop.index loop.stack loop.next loop.at.depth loop.at.count) c.requires loop.invariant.1
-    (record { order = sized.order; index = sized.index ∙ kept.0; stack = sized.stack ∙ kept.1.0; next = sized.next ∙ kept.1.1.0 })
+    (record { order = sized.order; index = sized.index ∙ kept.index; stack = sized.stack ∙ kept.stack; next = sized.next ∙ kept.next })
     (omega arith)
