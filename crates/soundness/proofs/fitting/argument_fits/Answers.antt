@@ -1,0 +1,14 @@
+-- `soundness::fitting::argument_fits` meets its contract.
+use Rattle.soundness.proofs.FittingCases.{fits_word, fits-value}
+use Rattle.rules.specs.File.{function_in}
+use mathlib.Core.Path.{sym, ap₂, ◌∙◌}
+use lib.Dec.{eqb}
+use Rattle.soundness.proofs.fitting.argument_fits.Goals as goal
+
+pub returns-then-a-ne0 : goal.returns-then-a-ne0
+returns-then-a-ne0 c = let A = c.args in sym (fits_word (function_in A.s.now) A.a A.p.second c.if-a-ne0.true)
+
+pub returns : goal.returns
+returns c =
+    let A = c.args in
+    ap₂ eqb c.size_of.ensures c.size_of-2.ensures ∙ sym (fits-value (function_in A.s.now) A.a A.p.second c.if-a-ne0.false)

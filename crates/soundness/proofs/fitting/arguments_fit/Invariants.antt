@@ -1,0 +1,16 @@
+-- `soundness::fitting::arguments_fit` meets its contract.
+use Rattle.soundness.specs.Fitting.{arguments_first, parameters_first}
+use Rattle.records.specs.Places.{rest}
+use Rattle.rules.specs.Refusals.{fit}
+use Rattle.rules.specs.File.{function_in}
+use Rattle.rules.specs.Records.{record_count}
+use mathlib.Core.Path.{◌≡◌}
+use Prim.Native.Nat.{◌≤◌, ◌-◌}
+use Rattle.soundness.proofs.fitting.arguments_fit.Given as goal
+
+abbrev pub invariant-loop-i : goal.invariant-loop-i
+invariant-loop-i l = (l.i ≤ record_count l.s) × (l.p ≤ record_count l.s)
+    × (fit (function_in l.s) (arguments_first (rest l.s l.i)) (parameters_first (rest l.s l.p)) ≡ fit (function_in l.s) (arguments_first (rest l.s l.at)) (parameters_first (rest l.s l.to)))
+
+abbrev pub decreases-loop-i : goal.decreases-loop-i
+decreases-loop-i l = record_count l.s - l.i
