@@ -1,0 +1,17 @@
+-- `listing::safepoints::is_reachable_safepoint` meets its contract.
+use Prim.Native.Nat.{◌≤◌, ◌-◌}
+use mathlib.Core.Path.{◌≡◌}
+use mathlib.Core.Option.{none}
+use mathlib.Core.Bool.{not}
+use lib.ListN.{get_or}
+use Rattle.listing.specs.HasList.{there_from}
+use Rattle.rules.specs.Liveness.{lists}
+use Rattle.rules.specs.Lists.{is_none}
+use Rattle.rules.specs.File.{function_in}
+use Rattle.listing.proofs.safepoints.is_reachable_safepoint.Given as goal
+
+abbrev pub invariant-loop-b : goal.invariant-loop-b
+invariant-loop-b l = (l.b ≤ l.blocks) × (get_or l.firsts l.b 0 ≤ l.i) × (there_from (function_in l.s) l.b (l.i - get_or l.firsts l.b 0) ≡ not (is_none (get_or (lists (function_in l.s)) l.i none)))
+
+abbrev pub decreases-loop-b : goal.decreases-loop-b
+decreases-loop-b l = l.blocks - l.b
