@@ -1,6 +1,6 @@
-// Slot holders: a lent table of entries, entry k for slot k. A covered core says what taking and giving make of one entry;
+// Slot holders: a lent table of entries, entry k for slot k. A core by value says what taking and giving make of one entry;
 // thin functions read, change and store an entry of the table where it stands; one function replays planning's steps over it.
-// What a lent table of entries needs of a proof by hand stays in this crate: callers above pass numbers.
+// What a lent table of entries needs of a proof stays in this crate: callers above pass numbers.
 #![tactic(auto)]
 
 pub mod changes;

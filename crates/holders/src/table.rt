@@ -25,7 +25,7 @@ pub fn replay<'a, 't>(
     }
 }
 
-// The same over a table by value, so that callers are proved without a walk: the table is lent here, once for all steps.
+// The same over a table by value, so that callers lend nothing: the table is lent here, once for all steps.
 pub fn replayed<'a>(
     s: &'a [u8],
     steps: &'a [u32],

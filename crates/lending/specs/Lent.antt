@@ -11,8 +11,8 @@
 use Rattle.std.specs.Prelude.{◌≡◌, refl, ℕ, zero, List, [], ◌∷◌, T}
 use Rattle.std.proofs.Common.{ap, subst, sym}
 use seplogic.Ra.Ura.{Ura}
-use seplogic.Ra.TreeShare.{full_share}
-use mir.Syntax.{named, Width, Ty, Fn, Name, Place, Opd as Operand, Body as Code, seq, call}
+use base.Fraction.{full_share}
+use mir.Syntax.{named, Width, Ty, Fn, Callee, Place, Opd as Operand, Body as Code, seq, call}
 use mir.Val.{Val, WT, vunit, vint, vptr, has_ty}
 use base.Logic.{ent, sep, emp, ex, via, mono∗, mono_r, assoc'}
 use base.Stored.{Gv}
@@ -140,20 +140,20 @@ module _ {M : Type 1} {𝓤 : Ura M} {𝓛 : Logic 𝓤} {K : Type 0} {Γ : List
       let e : v ≡ spelt.value x = ap only (spelt.tells x (v ∷ []) is) in
       subst (λ (u : Val). Seq K 𝓛 Γ (lands C Λ E d u rest q)) (sym e) (k (subst (λ (u : Val). Is R x (u ∷ [])) e is))
 
-module _ {M : Type 1} {𝓤 : Ura M} {𝓛 : Logic 𝓤} {K : Type 0} {Γ : List (Item 𝓤)} {E : Env 𝓤 𝓛.H} {C : Calls 𝓤 𝓛.H} {Λ : Loops 𝓤 𝓛.H} {q : Post 𝓤 𝓛.H} {f : Name} {d : Place} {xs : List Operand} {rest : Code} where
+module _ {M : Type 1} {𝓤 : Ura M} {𝓛 : Logic 𝓤} {K : Type 0} {Γ : List (Item 𝓤)} {E : Env 𝓤 𝓛.H} {C : Calls 𝓤 𝓛.H} {Λ : Loops 𝓤 𝓛.H} {q : Post 𝓤 𝓛.H} {f : Callee} {d : Place} {xs : List Operand} {rest : Code} where
   -- By value: what the callee asks is had for nothing. It says Q of its result, and of last values what `lasts` is, which is let go. Each operand is
   -- read below one item more.
   open 𝓛 use {H, A}
 
   pub calls-core : K → FmC 𝓤 H 𝓛.laws C → (c : Contract 𝓤) → Triple 𝓤 (C f) c → (y : c.Ghost) → ent 𝓤 (emp 𝓤) (c.pre y)
       → {R : RattleType} (spelt : Spelt R) (Q : R.Denot → Type 0) {Z : R.Denot → Type 0} (lasts : (x : R.Denot) → Z x → Fml)
-      → ((v : Val) → ent 𝓤 (c.post y v) (H.⇛ (ex 𝓤 (λ (x : R.Denot). sep 𝓤 (sep 𝓤 (sem 𝓛 ftrue) (sem 𝓛 (R.own x (v ∷ [])))) (ex 𝓤 (λ (z : Z x). sep 𝓤 (sem 𝓛 (lasts x z)) (fact 𝓤 (Q x))))))))
+      → ((v : Val) → ent 𝓤 (c.post y v) (H.⇛ (ex 𝓤 (λ (x : R.Denot). sep 𝓤 (sep 𝓤 (sem 𝓛 ftrue) (sem 𝓛 (R.own_val x (v ∷ [])))) (ex 𝓤 (λ (z : Z x). sep 𝓤 (sem 𝓛 (lasts x z)) (fact 𝓤 (Q x))))))))
       → ((i : Item 𝓤) → Opds K 𝓛 (i ∷ Γ) E xs (c.args y))
       → ((x : R.Denot) → Is R x (spelt.value x ∷ []) → Q x → Seq K 𝓛 Γ (lands C Λ E d (spelt.value x) rest q))
       → Seq K 𝓛 Γ (runs C Λ E (seq (call f xs d) rest) q)
   calls-core t fm c known y asked {R} spelt Q {Z} lasts told os k =
       use0 𝓛 (raw (c.pre y)) asked $ calls_at t fm c known y (os _) (λ v.
-      use1 𝓛 (later (some (λ (x : R.Denot). (‵ ftrue ⊛ ‵ (R.own x (v ∷ []))) ⊛ some (λ (z : Z x). ‵ (lasts x z) ⊛ raw (fact 𝓤 (Q x)))))) (told v) $ await t tt $ pick t (λ x. split t $
+      use1 𝓛 (later (some (λ (x : R.Denot). (‵ ftrue ⊛ ‵ (R.own_val x (v ∷ []))) ⊛ some (λ (z : Z x). ‵ (lasts x z) ⊛ raw (fact 𝓤 (Q x)))))) (told v) $ await t tt $ pick t (λ x. split t $
       move t (1 ∷ []) $ pick t (λ z. split t $ drop t $ heard t (Q x) (λ h. split t $ drop t $
       peeks t R (Is R) (shows 𝓛 R) x (v ∷ []) (λ is. drop t $ returned v spelt x is (λ is'. k x is' h))))))
 
@@ -164,7 +164,7 @@ module _ {M : Type 1} {𝓤 : Ura M} {𝓛 : Logic 𝓤} {K : Type 0} {Γ : List
       → ((ν : ℕ) (δ : GName) → ent 𝓤 (sep 𝓤 (A.lft (ν ∷ []) full_share) (sem 𝓛 ((MutRef (named 0) (ν ∷ []) (row_of S)).own_val (record { ref_ptr = (l, 0); ghost_name = δ; now = h }) (vptr l 0 ∷ [])))) (c.pre (y ν δ)))
       → {R : RattleType} (spelt : Spelt R) (Q : R.Denot → S.type.D → Type 0) {Z : R.Denot → S.type.D → Type 0} (lasts : (x : R.Denot) (r : S.type.D) → Z x r → Fml)
       → ((ν : ℕ) (δ : GName) (v : Val) → ent 𝓤 (c.post (y ν δ) v)
-      (H.⇛ (ex 𝓤 (λ (x : R.Denot). sep 𝓤 (sep 𝓤 (sep 𝓤 (A.lft (ν ∷ []) full_share) (sem 𝓛 ftrue)) (sem 𝓛 (R.own x (v ∷ []))))
+      (H.⇛ (ex 𝓤 (λ (x : R.Denot). sep 𝓤 (sep 𝓤 (sep 𝓤 (A.lft (ν ∷ []) full_share) (sem 𝓛 ftrue)) (sem 𝓛 (R.own_val x (v ∷ []))))
       (ex 𝓤 (λ (z : (r : S.type.D) × Z x r). sep 𝓤 (sem 𝓛 (fsep (fres δ ((row_of S).coded.code z.0)) (lasts x z.0 z.1))) (fact 𝓤 (Q x z.0))))))))
       → ((i j : Item 𝓤) (ν : ℕ) (δ : GName) → Opds K 𝓛 (i ∷ j ∷ Γ) E xs (c.args (y ν δ)))
       → ((x : R.Denot) (r : S.type.D) → Is R x (spelt.value x ∷ []) → Valued S r → Q x r → Seq K 𝓛 (‵ (fat full_share (type_of S) l 0 (value_of S r)) ∷ Γ) (lands C Λ E d (spelt.value x) rest q))
@@ -176,7 +176,7 @@ module _ {M : Type 1} {𝓤 : Ura M} {𝓛 : Logic 𝓤} {K : Type 0} {Γ : List
       use1 𝓛 (later (some (λ (δ : GName). ‵ ((MutRef (named 0) (ν ∷ []) (row_of S)).own_val (record { ref_ptr = (l, 0); ghost_name = δ; now = h }) (vptr l 0 ∷ [])) ⊛ ‵ (flent (ν ∷ []) (Body (mem (row_of S)) l 0 δ))))) (lends_ref 𝓛 (row_of S) (named 0) (ν ∷ []) h l 0) $ await t tt $ pick t (λ δ. split t $
       move t (2 ∷ 0 ∷ []) $ use2 𝓛 (raw (c.pre (y ν δ))) (goes ν δ) $
       calls_at t fm c known (y ν δ) (os _ _ ν δ) (λ v.
-      use1 𝓛 (later (some (λ (x : R.Denot). ((‵ (flft (ν ∷ []) full_share) ⊛ ‵ ftrue) ⊛ ‵ (R.own x (v ∷ []))) ⊛ some (λ (z : (r : S.type.D) × Z x r). ‵ (fsep (fres δ ((row_of S).coded.code z.0)) (lasts x z.0 z.1)) ⊛ raw (fact 𝓤 (Q x z.0)))))) (told ν δ v) $ await t tt $ pick t (λ x.
+      use1 𝓛 (later (some (λ (x : R.Denot). ((‵ (flft (ν ∷ []) full_share) ⊛ ‵ ftrue) ⊛ ‵ (R.own_val x (v ∷ []))) ⊛ some (λ (z : (r : S.type.D) × Z x r). ‵ (fsep (fres δ ((row_of S).coded.code z.0)) (lasts x z.0 z.1)) ⊛ raw (fact 𝓤 (Q x z.0)))))) (told ν δ v) $ await t tt $ pick t (λ x.
       split t $ move t (1 ∷ []) $ pick t (λ z. split t $ move t (1 ∷ []) $ heard t (Q x z.0) (λ e. fsplit t $
       -- [the last value; what else is said; the token and the result; the lender's part; …]
       move t (2 ∷ []) $ split t $ move t (1 ∷ []) $ peeks t R (Is R) (shows 𝓛 R) x (v ∷ []) (λ of. drop t $
