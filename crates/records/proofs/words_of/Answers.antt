@@ -52,7 +52,7 @@ pub returns-in-Load : goal.returns-in-Load
 returns-in-Load c = rw c.in-Load.is c.words-in-Load.ensures
 
 pub returns-in-Jump : goal.returns-in-Jump
-returns-in-Jump c = cc
+returns-in-Jump c = rw c.in-Jump.is c.words-in-Jump.ensures
 
 pub returns-in-Outside : goal.returns-in-Outside
-returns-in-Outside c = cc
+returns-in-Outside c = rw c.in-Outside.is c.words-in-Outside.ensures

@@ -10,27 +10,17 @@ use Rattle.rules.specs.File.{follows, followers}
 use Rattle.lists.specs.Truths.{agree, agree_same}
 use Rattle.checks.proofs.Table.{all-below}
 use borrow.Author.Rules.{rules}
-use Rattle.checks.proofs.order.may_follow.Statement.{statement}
-use Rattle.checks.proofs.order.may_follow.Tie as tie
+use Rattle.checks.proofs.order.may_follow.Goals as goal
 
 -- bit k of row p is right
 right : ℕ → ℕ → Bool
 right p k = agree (eqb (get_or follower_bits p 0 / 2 ^ k % 2) 1) (follows p k)
 
-followers-of-requires : tie.Need-followers-of-requires
-followers-of-requires c κs = search rules
-
-shr-result : tie.Need-overflow-shr-result
-shr-result c = search rules
-
-returns : tie.Need-returns
+pub returns : goal.returns
 unfolding right follower_bits agree follows followers
 returns c =
-    let p = c.before.args.p in
-    let k = c.before.args.k in
+    let p = c.args.p in
+    let k = c.args.k in
     let row : T (all (right p) (up_from 0 16)) = all-below (λ i. all (right i) (up_from 0 16)) 16 tt p (search rules) in
-    ap (λ r. eqb (r / 2 ^ k % 2) 1) c.followers-of.ensures
+    ap (λ r. eqb (r / 2 ^ k % 2) 1) c.followers_of.ensures
     ∙ agree_same (eqb (get_or follower_bits p 0 / 2 ^ k % 2) 1) (follows p k) (all-below (right p) 16 row k (search rules))
-
-pub may-follow-spec : {M : Type 1} → statement M
-may-follow-spec = tie.close (tie.spec followers-of-requires shr-result returns)
