@@ -5,7 +5,7 @@ use Rattle.std.proofs.Common.{arith}
 use Rattle.std.proofs.Math.Option.{Option, none, some}
 use Rattle.std.proofs.Math.ListN.{length}
 use Rattle.rules.specs.Lists.{any, keep, or_else, members}
-use Rattle.rules.specs.Tree.{Value, Edge, Instruction, Function}
+use Rattle.rules.specs.Tree.{Edge, Instruction, Function}
 use Rattle.rules.specs.Graph.{block_at, size_of, values_among, reachable}
 use Rattle.rules.specs.Liveness.{is_spilled, process, listed_instructions}
 use Rattle.rules.specs.Slots.{no_slots, free_slot}

@@ -4,7 +4,7 @@ use Rattle.std.specs.Prelude.{ℕ, suc, ◌≤◌, ◌<◌, ◌≡◌, refl, Boo
 use Rattle.std.proofs.Common.{arith, sym, ap, subst, ◌∙◌, T_not}
 use Rattle.std.proofs.Math.Option.{Option, none, some}
 use Rattle.rules.specs.Lists.{any, keep, concat_zip, members, is_none}
-use Rattle.rules.specs.Tree.{Value, Edge, Instruction, Function}
+use Rattle.rules.specs.Tree.{Edge, Instruction, Function}
 use Rattle.rules.specs.Graph.{block_at, values_among, reachable}
 use Rattle.rules.specs.Liveness.{is_spilled, process, listed_instructions}
 use Rattle.rules.specs.Slots.{no_slots}

@@ -234,12 +234,15 @@ module _ (size : ℕ → ℕ) where
       go none [] e = (length p.made, update_here u (some (length p.made)) p.slot_of)
       go none (x ∷ rest) e = (x, update_here u (some x) p.slot_of)
 
-  pub replayed-has : {ss : List SlotStep} {u : ℕ} (p : StackSlots) → gives u ∈ ss → (s : ℕ) × HasSlot (replayed size ss p) u s
-  replayed-has {u = u} p (here {x = t} {xs = ss} e) =
+  has-behind : (u : ℕ) {ss : List SlotStep} (p : StackSlots) → gives u ∈ ss → (s : ℕ) × HasSlot (replayed size ss p) u s
+  has-behind u p (here {x = t} {xs = ss} e) =
       let given = give-has u p in
       subst (λ x. (s : ℕ) × HasSlot (replayed size ss (taken size x p)) u s) e
       (given.0, replayed-keeps ss (give_slot u (size u) p) given.1)
-  replayed-has p (there {x = t} m) = replayed-has (taken size t p) m
+  has-behind u p (there {x = t} m) = has-behind u (taken size t p) m
+
+  pub replayed-has : {ss : List SlotStep} {u : ℕ} (p : StackSlots) → gives u ∈ ss → (s : ℕ) × HasSlot (replayed size ss p) u s
+  replayed-has {u = u} p m = has-behind u p m
 
   -- Slots stay apart, as long as only open values are freed, each at most once.
   pub replayed-holding :
@@ -253,7 +256,7 @@ module _ (size : ℕ → ℕ) where
       λ u. count-more (is_free_of u) (frees v) ss in
       let itself : (u : ℕ) → u ≡ v → bit (eqb u v) ≡ 1 = λ u e. ap bit (is_true (eqb u v) (eq→eqb e)) in
       holding-fewer (λ u a. ((a.0, λ e. omega (arith, a.1, more u, itself u e)), omega (arith, a.1, more u)))
-      (replayed-holding ss (λ u. omega (arith, once u, more u))
+      (replayed-holding {Open = λ u. Open u × (u ≢ v)} ss (λ u. omega (arith, once u, more u))
       (λ u l. (opened u (omega (arith, l, more u)), λ e. omega (arith, l, once u, more u, itself u e)))
       (free-holding h v (size v) (opened v (omega (arith, more v, itself v refl)))))
 
