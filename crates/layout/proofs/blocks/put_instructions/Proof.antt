@@ -10,7 +10,7 @@ use Rattle.writing.specs.Wrote.{Wrote, lent-room}
 use Rattle.writing.specs.Places.{from_to, wrote-start, turn-room}
 use Rattle.writing_instructions.specs.declared.instructions.InstructionRuns.{InstructionRuns}
 use Rattle.writing_instructions.specs.Narrowed.{instruction_in, runs-inside}
-use Rattle.writing.specs.Steps.{next_place, next-turn}
+use Rattle.writing.specs.Steps.{next-place, next-turn}
 use Rattle.layout.specs.Stepped.{next-number, instruction-turn, instructions-only}
 use Rattle.layout.specs.BlockRuns.{number_at, number-le, number-less, instruction_part_at}
 use Rattle.layout.proofs.blocks.put_instructions.Statement.{statement}
@@ -95,7 +95,7 @@ loop-less c =
     let inside = c.before.before.before.before.before.loop-test.true in
     let runs = c.before.before.before.before.instruction-runs in
     let there = ap (λ (r : InstructionRuns). r.end) runs.ensures in
-    let ahead = next_place start.args.s.now 4 start.args.end start.requires.2 loop.p inside runs.result.end there in
+    let ahead = next-place start.args.s.now 4 start.args.end start.requires.2 loop.p inside runs.result.end there in
     omega (arith, ahead.0, ahead.1)
 
 loop-again : tie.Need-loop-preserved invariant-loop decreases-loop
@@ -107,7 +107,7 @@ loop-again c =
     let g = instruction_part_at start.args.s.now start.args.numbers.now start.args.slots.now start.args.values (rows start.args.lists.now) start.args.end in
     let fits = turn-room g start.args.from loop.p loop.invariant.0 start.args.end inside start.requires.6 loop.invariant.3 in
     let there = ap (λ (r : InstructionRuns). r.end) runs.ensures in
-    let ahead = next_place start.args.s.now 4 start.args.end start.requires.2 loop.p inside runs.result.end there in
+    let ahead = next-place start.args.s.now 4 start.args.end start.requires.2 loop.p inside runs.result.end there in
     let four = loop.invariant.4 inside in
     let turn = instruction-turn start.args.s.now start.args.end start.requires.2 loop.p inside four (start.requires.7.in_order loop.p loop.invariant.0 inside four) runs.result runs.ensures start.args.numbers.now start.args.slots.now start.args.values (rows start.args.lists.now) loop.number loop.invariant.2 in
     (omega (arith, ahead.0, loop.invariant.0), ahead.1, next-number start.args.s.now start.args.end start.requires.2 loop.p inside runs.result.end there four loop.number loop.invariant.2, next-turn start.args.s.now 4 start.args.end start.requires.2 loop.p inside runs.result.end there g (instructions-only start.args.s.now start.args.numbers.now start.args.slots.now start.args.values (rows start.args.lists.now) start.args.end) start.args.from loop.invariant.0 (instruction_in start.args.s.now start.args.numbers.now start.args.slots.now (rows start.args.lists.now loop.number) start.args.values runs.result.place runs.result.results runs.result.exits runs.result.end) turn loop.invariant.3 (omega arith) c.before.before.put-instruction.ensures, ahead.2)

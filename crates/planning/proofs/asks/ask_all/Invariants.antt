@@ -1,0 +1,11 @@
+-- `planning::asks::ask_all` meets its contract.
+use Rattle.planning.specs.Standing.{Slotting, spilled_from}
+use Rattle.rows.specs.Rows.{rows}
+use Prim.Native.Nat.{◌-◌, ◌≤◌}
+use Rattle.planning.proofs.asks.ask_all.Given as goal
+
+abbrev pub invariant-loop-v : goal.invariant-loop-v
+invariant-loop-v l = (l.v ≤ l.values) × Slotting (spilled_from (rows l.spilled 0) (rows l.set l.row) l.v (l.values - l.v)) (spilled_from (rows l.spilled 0) (rows l.set l.row) 0 l.values) l.initial.asked l.initial.steps l.count l.asked l.steps l.found
+
+abbrev pub decreases-loop-v : goal.decreases-loop-v
+decreases-loop-v l = l.values - l.v

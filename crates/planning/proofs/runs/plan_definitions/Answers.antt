@@ -1,0 +1,35 @@
+-- `planning::runs::plan_definitions` meets its contract.
+use Rattle.rules.specs.File.{function_in}
+use Rattle.planning.specs.Operands.{define_at}
+use Rattle.planning.specs.Walking.{walked_start, walked-turn, room-turn}
+use Rattle.planning.specs.Standing.{tables}
+use native.Mathlib.Omega.{arith}
+use mathlib.Core.Path.{◌≡◌}
+use Prim.Native.Nat.{◌-◌}
+use Rattle.planning.proofs.runs.plan_definitions.Goals as goal
+
+pub loop-i-init : goal.loop-i-init
+loop-i-init c =
+    let none : c.args.start - c.args.start ≡ 0 = omega arith in
+    (omega arith, c.requires.1.up, rw none (walked_start (function_in c.args.s.now) (define_at c.args.s.now c.args.p.pointer c.args.kind) c.args.start (tables c.args.asked.now c.args.steps.now c.args.sizes.now c.args.p) c.args.numbers.now))
+
+pub plan_definition-done-requires : goal.plan_definition-done-requires
+plan_definition-done-requires c = (c.requires.0, omega (arith, c.loop-i-test.true, c.requires.1.in_file), omega (arith, c.loop-i-test.true, c.requires.1.in_numbers, c.loop-i.invariant.2.long), room-turn (function_in c.args.s.now) (λ pointer. define_at c.args.s.now pointer c.args.kind) c.args.start c.loop-i.i c.loop-i.invariant.0 (tables c.args.asked.now c.args.steps.now c.args.sizes.now c.args.p) (tables c.args.asked.now c.loop-i.steps c.loop-i.sizes c.loop-i.done) c.args.numbers.now c.loop-i.numbers c.loop-i.invariant.2 c.args.end c.loop-i-test.true c.requires.2)
+
+pub loop-i-preserved : goal.loop-i-preserved
+loop-i-preserved c =
+    (omega (arith, c.loop-i.invariant.0), omega (arith, c.loop-i-test.true), walked-turn (function_in c.args.s.now) (λ pointer. define_at c.args.s.now pointer c.args.kind) c.args.start c.loop-i.i c.loop-i.invariant.0 (tables c.args.asked.now c.args.steps.now c.args.sizes.now c.args.p) (tables c.args.asked.now c.loop-i.steps c.loop-i.sizes c.loop-i.done) c.args.numbers.now c.loop-i.numbers c.loop-i.invariant.2 _ _ c.plan_definition-done.ensures)
+
+pub shape_of-steps : goal.shape_of-steps
+shape_of-steps c = c.loop-i.invariant.2.kept.steps_long
+
+pub shape_of-sizes : goal.shape_of-sizes
+shape_of-sizes c = c.loop-i.invariant.2.kept.sizes_long
+
+pub shape_of-numbers : goal.shape_of-numbers
+shape_of-numbers c = c.loop-i.invariant.2.long
+
+pub returns : goal.returns
+returns c =
+    let all : c.loop-i.i ≡ c.args.end = omega (arith, c.loop-i-test.false, c.loop-i.invariant.1) in
+    rw all at c.loop-i.invariant.2

@@ -1,0 +1,13 @@
+-- `planning::runs::plan_definitions` meets its contract.
+use Rattle.rules.specs.File.{function_in}
+use Rattle.planning.specs.Operands.{define_at}
+use Rattle.planning.specs.Standing.{Walked, tables}
+use Prim.Native.Nat.{◌-◌, ◌≤◌}
+use Rattle.planning.proofs.runs.plan_definitions.Given as goal
+
+abbrev pub invariant-loop-i : goal.invariant-loop-i
+invariant-loop-i l = (l.start ≤ l.i) × (l.i ≤ l.end)
+    × Walked (function_in l.s) (define_at l.s l.initial.done.pointer l.kind) l.start (l.i - l.start) (tables l.asked l.initial.steps l.initial.sizes l.initial.done) l.initial.numbers (tables l.asked l.steps l.sizes l.done) l.numbers
+
+abbrev pub decreases-loop-i : goal.decreases-loop-i
+decreases-loop-i l = l.end - l.i
