@@ -25,14 +25,14 @@ module _ (spilled set : NumberSet) (v : ℕ) (asked steps : List ℕ) (n : ℕ) 
   slotted-out e = rw e (slotting-start [] asked steps n)
 
   pub slotted-unspilled : set v ≡ true → spilled v ≡ false → Slotted (spilled_from spilled set v 1) asked steps n asked steps n
-  slotted-unspilled e d = simp (e, d) (slotting-start [] asked steps n)
+  slotted-unspilled e d = rw (e, d, keep) (slotting-start [] asked steps n)
 
   -- and one that is, is
   pub slotted-in :
       set v ≡ true → spilled v ≡ true → v < row_values → n + lack one row_values (rows asked 0) + 0 ≤ length steps
       → (asked' steps' : List ℕ) (n' : ℕ) → Asked v asked steps n asked' steps' n'
       → Slotted (spilled_from spilled set v 1) asked steps n asked' steps' n'
-  slotted-in e d low room asked' steps' n' a = simp (e, d) asks
+  slotted-in e d low room asked' steps' n' a = rw (e, d, keep) asks
     where
       asks : Slotted (v ∷ []) asked steps n asked' steps' n'
       asks =
