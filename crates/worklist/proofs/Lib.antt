@@ -2,5 +2,4 @@ pub mod Marks
 pub mod Moving
 pub mod Places
 pub mod Raising
-pub mod Walks
 pub mod Stacking
