@@ -37,7 +37,7 @@ pub fn write_function(
 ) -> usize
     requires { FunctionTables s.now places.now index.now numbers.now lists.now new_sizes.now slot_sizes.now counts × Firsts s.now firsts.now × (room (function_run s.now places.now numbers.now slots.now (rows lists.now) new_sizes.now slot_sizes.now counts) ≤ length out.old) }
     ensures wrote { Wrote out.old (function_run s.now places.now numbers.now slots.now (rows lists.now) new_sizes.now slot_sizes.now counts) result out.new }
-    ensures by_index { (pointer : ℕ) → PlanTables s.now numbers.now slots.now lists.now new_sizes.now slot_sizes.now counts pointer → Wrote out.old (function_records (rewritten (function_in s.now) pointer)) result out.new }
+    ensures by_plan { (pointer : ℕ) → PlanTables s.now numbers.now slots.now lists.now new_sizes.now slot_sizes.now counts pointer → Wrote out.old (function_records (rewritten (function_in s.now) pointer)) result out.new }
 {
     let values = counts.values;
     let blocks = counts.blocks;

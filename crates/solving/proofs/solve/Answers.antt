@@ -21,7 +21,7 @@ pub visit-at-requires : goal.visit-at-requires
 visit-at-requires c =
     let given = c.requires in
     let loop = c.loop-ins in
-    let more = sym c.is_done.ensures ∙ not-true _ c.loop-ins-test.true in (
+    let more = sym c.is_done.ensures ∙ c.loop-ins-test.true in (
       given.walked.given,
       given.ruled,
       given.listed,
@@ -34,17 +34,17 @@ pub loop-ins-smaller : goal.loop-ins-smaller
 loop-ins-smaller c =
     let loop = c.loop-ins in
     let visit = c.visit-at in
-    let more = sym c.is_done.ensures ∙ not-true _ c.loop-ins-test.true in
+    let more = sym c.is_done.ensures ∙ c.loop-ins-test.true in
     solving-less c.requires _ _ loop.at loop.invariant.2 more _ _ visit.result (visit.ensures _ loop.invariant.2)
 
 pub loop-ins-preserved : goal.loop-ins-preserved
 loop-ins-preserved c =
     let loop = c.loop-ins in
     let visit = c.visit-at in
-    let kept = visit.auto.1.1.1.1.1.1.1 in
-    let more = sym c.is_done.ensures ∙ not-true _ c.loop-ins-test.true in (
-      kept.0 ∙ loop.invariant.0,
-      kept.1.0 ∙ loop.invariant.1,
+    let kept = visit.auto in
+    let more = sym c.is_done.ensures ∙ c.loop-ins-test.true in (
+      kept.ins ∙ loop.invariant.0,
+      kept.outs ∙ loop.invariant.1,
       solving-more c.requires _ _ loop.at loop.invariant.2 more _ _ visit.result (visit.ensures _ loop.invariant.2),
     )
 
@@ -57,4 +57,4 @@ shape_of-outs c = c.loop-ins.invariant.1
 pub returns : goal.returns
 returns c =
     let loop = c.loop-ins in
-    solved c.requires _ _ loop.at loop.invariant.2 (sym c.is_done.ensures ∙ not-false _ c.loop-ins-test.false)
+    solved c.requires _ _ loop.at loop.invariant.2 (sym c.is_done.ensures ∙ c.loop-ins-test.false)

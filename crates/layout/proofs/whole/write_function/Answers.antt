@@ -223,4 +223,4 @@ returns c =
     let w2 = wrote_then w1 (written-le w1 b2 h2) c.put_new_values-b.ensures in
     let w3 = wrote_then w2 (written-le w2 b3 h3) c.put_slots-c.ensures in
     let w4 = wrote_then w3 (written-le w3 b4 h4) c.put_blocks-d.ensures in
-    (w4, λ pointer plan. wrote_as _ _ (sym (function-written c.requires.0 pointer plan)) w4)
+    record { wrote = w4; by_plan = λ pointer plan. wrote_as _ _ (sym (function-written c.requires.0 pointer plan)) w4 }
