@@ -29,4 +29,4 @@ overflow_cast-result-4 c = omega (arith, landings-few c.requires.0)
 pub returns : goal.returns
 returns c =
     outcome-written c.requires.0 c.count_records-records.result (length c.args.out.now) c.count_records-records.ensures.0 c.if-out-records.false c.requires.1
-    c.write_function.ensures.0
+    c.write_function.ensures.wrote
