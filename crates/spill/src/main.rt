@@ -2,7 +2,8 @@
 // it with that error.
 #![tactic(auto)]
 
-ghost use Rattle.std.specs.Prelude.{◌≤◌, length, IfOk};
+ghost use Rattle.std.specs.Prelude.{◌≤◌, ◌<◌, length, take, IfOk};
+ghost use Rattle.std.specs.Io.KnownBytes.{Consumes, IsAtEnd};
 
 use program::{PROGRAM_INPUT, PROGRAM_OUTPUT, refused_line, respond, to_write};
 use std::io::{Read, Result, Write};
@@ -17,23 +18,21 @@ fn main(rt: HostRuntime) -> Result<()> {
     let line = refused_line(verdict);
     let bytes = line.bytes;
     let count = line.count;
-    rt.stdout().write_all(to_write(
-        answer,
-        &input[..n],
-        &output,
-        &bytes[..count],
-    ))
+    rt.stdout()
+        .write_all(to_write(answer, &input[..n], &output, &bytes[..count]))
 }
 
 // Reads until the buffer is full or the input ends, and returns how many bytes it put at the front.
 fn read_full<R: Read>(reader: &mut R, buffer: &mut [u8]) -> Result<usize>
-    ensures { IfOk result (λ n. n ≤ length buffer.new) }
+    ensures bound { IfOk result (λ n. n ≤ length buffer.new) }
+    ensures bytes { IfOk result (λ n. Consumes (R.remaining reader.old) (R.remaining reader.new) (take n buffer.new)) }
+    ensures whole { IfOk result (λ n. n < length buffer.new → IsAtEnd (R.remaining reader.new)) }
 {
     let mut done = 0;
     while done < buffer.len() {
         let n = reader.read(&mut buffer[done..])?;
         if n == 0 {
-            break;
+            return Ok(done);
         }
         done += n;
     }
