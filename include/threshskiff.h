@@ -2,7 +2,7 @@
  * Threshskiff: a compiler pass that decides which references must lie in stack slots at each call where memory may be collected, and
  * rewrites the function with stores, reloads and stack maps.
  *
- * Link target/staticlib/libthreshskiff.a, which `rt staticlib threshskiff` makes: for x86-64 with the System V calling convention alone.
+ * Link target/staticlib/libthreshskiff.a, which `.ci/library` makes: for x86-64 with the System V calling convention alone.
  * It needs memset of the C library, and nothing else.
  *
  * Every function here is proved to meet what its comment says, for all bytes and all numbers that it is handed: it ends, it touches nothing

@@ -1,7 +1,7 @@
 #!/usr/bin/env python3
 """Brings the repository's own names to the library's spelling: words in snake case, types in camel case.
 
-It was run once, behind /opt/rattle/port/port.py and in the same commit. A name of a definition, lemma, field or local of specs/, proofs/ or a
+It was run once, behind the kit's port.py and in the same commit. A name of a definition, lemma, field or local of specs/, proofs/ or a
 clause that begins with a small letter loses its capitals (`instructionsOf` is `instructions_of`); a hyphen between two words of a lemma's name
 stays. Names of functions, types, constants and exports are as they were, and so is what stands between double quotes.
 """

@@ -1,4 +1,4 @@
-//! Links the static library that `rt staticlib threshskiff` makes in the repository, or one for another machine in the folder
+//! Links the static library that `.ci/library` makes in the repository, or one for another machine in the folder
 //! that THRESHSKIFF_ARCHIVES names.
 
 use std::env;
@@ -20,7 +20,7 @@ fn main() {
     println!("cargo::rerun-if-env-changed={VARIABLE}");
     println!("cargo::rerun-if-changed={}", archive.display());
     if !archive.is_file() {
-        println!("cargo::warning={} is not there: run `rt staticlib threshskiff`", archive.display());
+        println!("cargo::warning={} is not there: run `.ci/library` in the repository", archive.display());
     }
     println!("cargo::rustc-link-search=native={}", folder.display());
     println!("cargo::rustc-link-lib=static=threshskiff");

@@ -1,21 +1,40 @@
-// The program: a function file from standard input, rewritten for pointers of 8 bytes, to standard output.
+// The program: a function file from standard input, rewritten for pointers of 8 bytes, to standard output. A read or a write that fails ends
+// it with that error.
 #![tactic(auto)]
 
-use libc::{STDIN_FILENO, STDOUT_FILENO};
-use program::{PROGRAM_INPUT, PROGRAM_OUTPUT, refused_line, respond, to_write};
+ghost use Rattle.std.specs.Prelude.{◌≤◌, ◌<◌, length, take, IfOk};
+ghost use Rattle.std.specs.Io.KnownBytes.{Consumes, IsAtEnd};
 
-fn main() {
+use program::{PROGRAM_INPUT, PROGRAM_OUTPUT, refused_line, respond, to_write};
+use std::io::{Read, Result, Write};
+
+fn main(rt: HostRuntime) -> Result<()> {
     // One byte more than the largest input, so that a longer one is told.
     let mut input: [u8; PROGRAM_INPUT + 1] = [0; PROGRAM_INPUT + 1];
     let mut output: [u8; PROGRAM_OUTPUT] = [0; PROGRAM_OUTPUT];
-    let n = io::read_full(STDIN_FILENO, &mut input);
+    let n = read_full(&mut rt.stdin(), &mut input)?;
     let answer = respond(&input[..n], &mut output);
     let verdict = answer.verdict;
     let line = refused_line(verdict);
     let bytes = line.bytes;
     let count = line.count;
-    io::write_all(
-        STDOUT_FILENO,
-        to_write(answer, &input[..n], &output, &bytes[..count]),
-    );
+    rt.stdout()
+        .write_all(to_write(answer, &input[..n], &output, &bytes[..count]))
+}
+
+// Reads until the buffer is full or the input ends, and returns how many bytes it put at the front.
+fn read_full<R: Read>(reader: &mut R, buffer: &mut [u8]) -> Result<usize>
+    ensures bound { IfOk result (λ n. n ≤ length buffer.new) }
+    ensures bytes { IfOk result (λ n. Consumes (R.remaining reader.old) (R.remaining reader.new) (take n buffer.new)) }
+    ensures whole { IfOk result (λ n. n < length buffer.new → IsAtEnd (R.remaining reader.new)) }
+{
+    let mut done = 0;
+    while done < buffer.len() {
+        let n = reader.read(&mut buffer[done..])?;
+        if n == 0 {
+            return Ok(done);
+        }
+        done += n;
+    }
+    Ok(done)
 }

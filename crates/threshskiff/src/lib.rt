@@ -1,5 +1,5 @@
-// The services under C names, for the static library. An answer is a struct of plain numbers in C's layout; `include/threshskiff.h`
-// has the same for C, and what each function promises in words.
+// The services as C has them: an answer is a struct of plain numbers in C's layout, and a refusal is its number. `threshskiff_c` exports each
+// of these functions under its own name; `include/threshskiff.h` has the same for C, and what each promises in words.
 #![tactic(auto)]
 
 ghost use Rattle.std.specs.Prelude.{◌≡◌, length};
@@ -55,8 +55,7 @@ pub struct ThreshskiffFinal {
 }
 
 // The number of the lowest refusal of 2 to 8 that applies to a file, 0 where none does.
-#[unsafe(no_mangle)]
-pub extern "C" fn threshskiff_check(file: &[u8]) -> u32
+pub fn threshskiff_check(file: &[u8]) -> u32
     ensures { CheckAllows file.now result }
 {
     let verdict = check_file(file);
@@ -64,8 +63,7 @@ pub extern "C" fn threshskiff_check(file: &[u8]) -> u32
 }
 
 // Liveness: both live tables, visits and pushes.
-#[unsafe(no_mangle)]
-pub extern "C" fn threshskiff_liveness(
+pub fn threshskiff_liveness(
     file: &[u8],
     live_in: &mut [u64],
     live_out: &mut [u64],
@@ -82,8 +80,7 @@ pub extern "C" fn threshskiff_liveness(
 }
 
 // The list of one safepoint, ascending, and its count.
-#[unsafe(no_mangle)]
-pub extern "C" fn threshskiff_list(
+pub fn threshskiff_list(
     file: &[u8],
     instruction: u32,
     numbers: &mut [u32],
@@ -109,8 +106,7 @@ fn one_if(b: bool) -> u32
 }
 
 // Rewriting: the rewritten records, and what they count.
-#[unsafe(no_mangle)]
-pub extern "C" fn threshskiff_rewrite(
+pub fn threshskiff_rewrite(
     file: &[u8],
     pointer_size: u32,
     output: &mut [u8],
@@ -142,8 +138,7 @@ fn verdict_of(refusal: u32) -> Verdict
 
 // Where the final records of an answer are, whatever its numbers are: at the front of the input, where it says "unchanged" by any
 // number but 0, else at the front of the output.
-#[unsafe(no_mangle)]
-pub extern "C" fn threshskiff_final<'a>(
+pub fn threshskiff_final<'a>(
     answer: ThreshskiffRewriting,
     input: &'a [u8],
     output: &'a [u8],
