@@ -80,11 +80,7 @@ pub fn threshskiff_liveness(
 }
 
 // The list of one safepoint, ascending, and its count.
-pub fn threshskiff_list(
-    file: &[u8],
-    instruction: u32,
-    numbers: &mut [u32],
-) -> ThreshskiffList
+pub fn threshskiff_list(file: &[u8], instruction: u32, numbers: &mut [u32]) -> ThreshskiffList
     ensures { ListAllows file.now instruction (length numbers.old) result numbers.new }
 {
     let listed = list(file, instruction, numbers);

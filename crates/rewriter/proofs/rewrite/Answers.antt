@@ -15,7 +15,7 @@ pub returns-then-not-is_pointer_size : goal.returns-then-not-is_pointer_size
 returns-then-not-is_pointer_size c =
     let A = c.args in
     let said =
-    pointer-refused (A.s).now A.pointer (length (A.out).now) (sym c.is_pointer_size.ensures ∙ (ap not c.if-not-is_pointer_size.true)) in
+    pointer-refused (A.s).now A.pointer (length (A.out).now) (sym c.is_pointer_size.ensures ∙ c.if-not-is_pointer_size.true) in
     (c.refused.ensures ∙ said.0, c.clear_bytes.ensures ∙ said.1)
 
 pub survey-found-requires : goal.survey-found-requires
@@ -24,7 +24,7 @@ survey-found-requires c = blank-tables
 pub returns-then-not-is_accepted : goal.returns-then-not-is_accepted
 returns-then-not-is_accepted c =
     let A = c.args in
-    let fine = sym c.is_pointer_size.ensures ∙ (ap not c.if-not-is_pointer_size.false) in
+    let fine = sym c.is_pointer_size.ensures ∙ c.if-not-is_pointer_size.false in
     let no' = said-no c.is_accepted.ensures c.survey-found.ensures.says (ap not c.if-not-is_accepted.true) in
     let said = rewriting-refused (A.s).now A.pointer (length (A.out).now) fine no' _ c.survey-found.ensures.says in
     (c.refused-then-not-is_accepted.ensures ∙ said.0, c.clear_bytes.ensures ∙ said.1)
@@ -32,7 +32,7 @@ returns-then-not-is_accepted c =
 pub rewrite_accepted-requires : goal.rewrite_accepted-requires
 rewrite_accepted-requires c = (
   surveyed-indexed blank-tables c.survey-found.ensures (said-yes c.is_accepted.ensures c.survey-found.ensures.says (ap not c.if-not-is_accepted.false)),
-  sym c.is_pointer_size.ensures ∙ (ap not c.if-not-is_pointer_size.false),
+  sym c.is_pointer_size.ensures ∙ c.if-not-is_pointer_size.false,
   (cleared-blank _ (length c.args.out.now) (length c.args.out.now) c.clear_bytes.ensures (search rules)).1,
 )
 
