@@ -29,8 +29,8 @@ pub struct Line {
 
 // The answer for an input, with what is written to the output: 3 at once where the input is too long, else rewriting's.
 pub fn respond(s: &[u8], out: &mut [u8]) -> RewritingAnswer
-    ensures value { result ≡ program_answer s.now (length out.old) }
-    ensures out_after { out.new ≡ program_buffer s.now (length out.old) }
+    ensures answer { result ≡ program_answer s.now (length out.old) }
+    ensures output { out.new ≡ program_buffer s.now (length out.old) }
 {
     if s.len() > PROGRAM_INPUT {
         clear_bytes(out);

@@ -9,22 +9,11 @@ use Rattle.rules.specs.Services.{final_records}
 use Rattle.rules.specs.declared.RewritingAnswer.{RewritingAnswer}
 use Rattle.rules.specs.declared.Verdict.{Verdict}
 use Rattle.threshskiff.specs.declared.ThreshskiffFinal.{ThreshskiffFinal}
-use borrow.Author.Rules.{rules}
-use Rattle.threshskiff.proofs.threshskiff_final.Statement.{statement}
-use Rattle.threshskiff.proofs.threshskiff_final.Tie as tie
+use Rattle.threshskiff.proofs.threshskiff_final.Goals as goal
 
-verdict-of-requires : tie.Need-verdict-of-requires
-verdict-of-requires c κs = search rules
-
-final-records-requires : tie.Need-final-records-requires
-final-records-requires c κs = search rules
-
-one-if-requires : tie.Need-one-if-requires
-one-if-requires c κs = search rules
-
-returns : tie.Need-returns
+pub returns : goal.returns
 returns c =
-    let A = c.before.before.before.before.before.args in
+    let A = c.args in
     let said : Verdict → RewritingAnswer =
     λ v.
     record {
@@ -38,12 +27,8 @@ returns c =
     } in
     let part : ℕ → ℕ → ThreshskiffFinal = λ of n. record { of_output = of; offset = 0; length = n } in
     let named = bit (eqb (A.answer).unchanged 0) in
-    ap (λ of. part of (length c.before.final-records.result.now)) c.one-if.ensures
+    ap (λ of. part of (length c.final_records-part.result.now)) c.one_if.ensures
     ∙ ap (part named)
     (ap length
-    (c.before.final-records.ensures
-    ∙ ap (λ (v : Verdict). final_records (said v) (A.input).now (A.output).now) c.before.before.verdict-of.ensures))
-
-pub threshskiff-final-spec : {M : Type 1} → statement M
-threshskiff-final-spec =
-    tie.close (tie.spec verdict-of-requires final-records-requires one-if-requires returns)
+    (c.final_records-part.ensures
+    ∙ ap (λ (v : Verdict). final_records (said v) (A.input).now (A.output).now) c.verdict_of.ensures))
