@@ -1,5 +1,5 @@
 -- What is read and lent: a file whose values rows have bits for, and tables with a row for each block.
-use Rattle.std.specs.Prelude.{ℕ, zero, suc, ◌+◌, ◌-◌, ◌*◌, ◌<◌, ◌≤◌, ◌≡◌, Bool, List, [], ◌∷◌, ◌++◌, length, T, ltb}
+use Rattle.std.specs.Prelude.{ℕ, zero, suc, ◌+◌, ◌*◌, ◌<◌, ◌≤◌, ◌≡◌, Bool, List, [], ◌∷◌, ◌++◌, length, T, ltb}
 use Rattle.std.proofs.Common.{sym, subst, arith, lt→ltb, ltb→lt}
 use Rattle.rules.specs.Limits.{row_words}
 use Rattle.rules.specs.Lists.{all, concat_map}

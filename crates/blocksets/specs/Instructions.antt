@@ -5,7 +5,7 @@ use Rattle.std.proofs.Math.Path.{refl, sym, ap, ap₂}
 use Rattle.std.proofs.Common.{◌∙◌}
 use mathlib.Core.List.{List, [], ◌∷◌, ◌++◌, map}
 use Rattle.rules.specs.Lists.{all, keep, has, concat_map, NumberSet, adding, removing}
-use Rattle.rules.specs.Tree.{Edge, Instruction, Function}
+use Rattle.rules.specs.Tree.{Edge, Function}
 use Rattle.rules.specs.Records.{kind}
 use Rattle.rules.specs.File.{followers, follows, Section, of_kind, named, instruction_of, edges_of}
 use Rattle.rules.specs.Graph.{is_marked, values_among, values_passed}

@@ -1,5 +1,5 @@
 -- The laws of the linked lists: each, read from its first entry, is the definition's list of predecessors.
-use Rattle.std.specs.Prelude.{ℕ, zero, suc, ◌+◌, ◌-◌, ◌<◌, ◌≤◌, ◌≡◌, refl, ◌≢◌, Bool, true, false, length, get_or, set, T, eqb}
+use Rattle.std.specs.Prelude.{ℕ, zero, suc, ◌+◌, ◌<◌, ◌≤◌, ◌≡◌, refl, ◌≢◌, Bool, true, false, length, get_or, set, T, eqb}
 use Rattle.std.proofs.Common.{sym, ap₂, ◌∙◌, arith, add-one, length-set, length-append, get_or-set_same, get_or-set_other, eqb→eq}
 use Rattle.std.proofs.Math.Path.{ap}
 use mathlib.Core.List.{List, [], ◌∷◌, ◌++◌, map, reverse, reverse-cons, reverse-reverse, append_assoc, append-nil}

@@ -3,7 +3,7 @@ use Rattle.std.specs.Prelude.{ℕ, zero, suc, ◌+◌, ◌-◌, ◌<◌, ◌≤�
 use Rattle.std.proofs.Common.{sym, ap, subst, ◌∙◌, arith, add-one, length-append, eqb→eq}
 use Rattle.std.proofs.Math.Option.{Option, none, some}
 use Rattle.std.proofs.lemmas.List.{length-map}
-use Rattle.rules.specs.Lists.{all, keep, is_none, or_else, concat_map, has, up_from, nothing, members}
+use Rattle.rules.specs.Lists.{all, keep, is_none, or_else, concat_map, up_from, nothing, members}
 use Rattle.rules.specs.Tree.{Function}
 use Rattle.rules.specs.Records.{kind, record_at, record_count, records}
 use Rattle.rules.specs.File.{ordered, cut, instruction_of, function_in}

@@ -10,7 +10,7 @@ use Rattle.std.proofs.Math.Dec.{T, eqb→eq}
 use Rattle.rules.specs.Limits.{row_words}
 use Rattle.rules.specs.Lists.{has, keep, members}
 use Rattle.rules.specs.Tree.{Function}
-use Rattle.rules.specs.Records.{encode, kind, record_at, records}
+use Rattle.rules.specs.Records.{encode, kind, record_at}
 use Rattle.rules.specs.File.{followers, follows, of_kind, named, function_in}
 use Rattle.rules.specs.Graph.{block_at}
 use Rattle.rules.specs.Liveness.{process, listed_instructions, is_spilled}

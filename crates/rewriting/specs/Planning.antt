@@ -21,8 +21,7 @@ use Rattle.rows.specs.Rows.{rows, row_values}
 use Rattle.listing.specs.Ascending.{length-lists-instructions}
 use Rattle.listing.specs.Crossings.{listed}
 use Rattle.listing.specs.Firsts.{Firsts}
-use Rattle.numbering.specs.Beside.{made}
-use Rattle.planning.specs.Standing.{Tables, tables, slots_by}
+use Rattle.planning.specs.Standing.{Tables, slots_by}
 use Rattle.planner.specs.Functions.{PlanGiven, FunctionPlanned}
 use Rattle.planner.specs.Functions.{PlanLent as LentToPlanner}
 use Rattle.layout.specs.Whole.{PlanTables}

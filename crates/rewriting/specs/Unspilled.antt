@@ -9,7 +9,7 @@ use Rattle.rules.specs.Tree.{Edge, Instruction, Function}
 use Rattle.rules.specs.Graph.{block_at, values_among, reachable}
 use Rattle.rules.specs.Liveness.{process, listed_instructions, is_spilled}
 use Rattle.rules.specs.Slots.{no_slots}
-use Rattle.rules.specs.Plan.{Plan, EdgePlan, Planning, ◌>>=◌, pure, for_each, for_each_backward, plan_slot, plan_store, plan_definition}
+use Rattle.rules.specs.Plan.{Plan, EdgePlan, Planning, pure, for_each, for_each_backward, plan_slot, plan_store, plan_definition}
 use Rattle.rules.specs.Plan.{plan_load, plan_use, plan_edge_use, plan_edge, plan_landing, plan_safepoint_edge, plan_instruction, plan_block, planned}
 use Rattle.rules.specs.declared.EdgeArgument.{EdgeArgument}
 use Rattle.rules.specs.declared.EdgeArgument.TheVariants as passes

@@ -1,10 +1,9 @@
 -- The order of a file's records, the tree that they are, and the records of a tree.
 use Rattle.std.specs.Prelude.{ℕ, Bool, true, false, ◌&&◌, cond, List, [], ◌∷◌, ◌++◌, map, get_or, leb, eqb}
 use Rattle.rules.specs.Lists.{concat_map, has}
-use Rattle.rules.specs.Tree.{Value, Edge, MapEntry, Instruction, Item, instruction, slot_address, store, load, jump, Block, Function}
+use Rattle.rules.specs.Tree.{Edge, Instruction, Item, instruction, slot_address, store, load, jump, Block, Function}
 use Rattle.rules.specs.Records.{encode, kind, is_safepoint, is_terminator, edge_argument, records}
 use Rattle.rules.specs.declared.Words.{Words}
-use Rattle.rules.specs.declared.EdgeArgument.{EdgeArgument}
 use Rattle.rules.specs.declared.Record.{Record}
 use Rattle.rules.specs.declared.Record.TheVariants as record'
 

@@ -1,7 +1,7 @@
 -- Why a call says no. A service goes down a list of refusals, lowest number first, and gives the first that applies.
 use Rattle.std.specs.Prelude.{ℕ, suc, ◌%◌, Bool, true, false, not, ◌&&◌, ◌||◌, cond, List, [], ◌∷◌, ◌++◌, length, ltb, eqb}
 use Rattle.rules.specs.Lists.{all, any, count, empty, concat_map, has, up_from, members}
-use Rattle.rules.specs.Tree.{Value, Edge, Instruction, Block, Function}
+use Rattle.rules.specs.Tree.{Edge, Instruction, Block, Function}
 use Rattle.rules.specs.Limits.{record_bytes, largest_records, largest_values, largest_blocks, largest_instructions, largest_edges}
 use Rattle.rules.specs.Records.{slot_sizes, record_count, first_words, records}
 use Rattle.rules.specs.File.{ordered, function_in}

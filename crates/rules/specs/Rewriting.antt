@@ -2,7 +2,7 @@
 use Rattle.std.specs.Prelude.{ℕ, suc, true, false, List, [], ◌∷◌, ◌++◌, map, eqb}
 use Rattle.std.proofs.Math.Option.{Option, none, some}
 use Rattle.rules.specs.Lists.{or_else, concat_map, zip_with, concat_zip}
-use Rattle.rules.specs.Tree.{Value, Edge, MapEntry, Instruction, Item, instruction, slot_address, store, load, jump, Block, Function}
+use Rattle.rules.specs.Tree.{Edge, MapEntry, Instruction, Item, instruction, slot_address, store, load, jump, Block, Function}
 use Rattle.rules.specs.Graph.{size_of, reachable}
 use Rattle.rules.specs.Liveness.{listed_instructions}
 use Rattle.rules.specs.Plan.{Made, EdgePlan, InstructionPlan, BlockPlan, planned}

@@ -14,7 +14,7 @@ use Rattle.rules.specs.File.{function_in}
 use Rattle.rules.specs.Graph.{reachable}
 use Rattle.rules.specs.Liveness.{process}
 use Rattle.rules.specs.Refusals.{Refusal, ◌when◌, first_of, file_refusals}
-use Rattle.rules.specs.Services.{is_accepted, lent, table, liveness_verdict, liveness_answer, liveness_ins, liveness_outs}
+use Rattle.rules.specs.Services.{is_accepted, table, liveness_verdict, liveness_answer, liveness_ins, liveness_outs}
 use Rattle.rules.specs.declared.Verdict.{Verdict}
 use Rattle.rules.specs.declared.Verdict.TheVariants as verdict
 use Rattle.lists.specs.Tests.{test-elim, or_left, or_right, chosen, left_out}

@@ -1,6 +1,6 @@
 -- What the table of holders is after the noted steps, where each step's place is the slot that it is about: every entry has
 -- the size of its slot, and 0 where no slot is made.
-use Rattle.std.specs.Prelude.{ℕ, zero, suc, ◌-◌, ◌/◌, ◌%◌, ◌<◌, ◌≤◌, ◌≡◌, Bool, true, false, cond, not, length, get_or, take, replicate, T, eqb, ltb}
+use Rattle.std.specs.Prelude.{ℕ, zero, suc, ◌/◌, ◌%◌, ◌<◌, ◌≤◌, ◌≡◌, Bool, true, false, cond, not, length, get_or, take, replicate, T, eqb, ltb}
 use Rattle.std.proofs.Math.Path.{refl, subst}
 use Rattle.std.proofs.Common.{sym, ap, ap₂, ◌∙◌, arith, eq-eqb, ne_eqb, length-set, length-append, take-suc, take-suc-set, get_or-set_same, get_or-set_other, eqb→eq, ltb→lt, nltb→le}
 use Rattle.std.proofs.Math.Option.{Option, none, some}

@@ -2,7 +2,6 @@
 use borrow.Author.Rules.{rules}
 use Rattle.buffers.proofs.Zeroed.{zeroed-none, zeroed-more, zeroed-all}
 use native.Mathlib.Omega.{arith}
-use Prim.Native.Nat.{◌-◌}
 use Rattle.buffers.proofs.clear_bytes.Goals as goal
 
 pub loop-at-init : goal.loop-at-init

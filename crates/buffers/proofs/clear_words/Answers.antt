@@ -2,7 +2,6 @@
 use borrow.Author.Rules.{rules}
 use Rattle.buffers.proofs.Zeroed.{zeroed-none, zeroed-more, zeroed-all}
 use native.Mathlib.Omega.{arith}
-use Prim.Native.Nat.{◌-◌}
 use Rattle.buffers.proofs.clear_words.Goals as goal
 
 pub loop-i-init : goal.loop-i-init

@@ -1,5 +1,4 @@
 -- `counting::count_added` meets its contract.
-use Prim.Native.Nat.{◌-◌}
 use mathlib.Core.Path.{◌≡◌}
 use native.Mathlib.Omega.{arith}
 use Rattle.counting.specs.Totals.{block_added}

@@ -6,7 +6,7 @@ use Rattle.rules.specs.Records.{kind, record_at}
 use lib.ListN.{get_or}
 use native.Mathlib.Omega.{arith}
 use mathlib.Core.Path.{◌≡◌, ap, ◌∙◌}
-use Prim.Native.Nat.{ℕ, ◌-◌}
+use Prim.Native.Nat.{ℕ}
 use Rattle.counting.proofs.count_between.Goals as goal
 
 pub loop-i-init : goal.loop-i-init

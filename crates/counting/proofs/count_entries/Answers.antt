@@ -1,5 +1,4 @@
 -- `counting::count_entries` meets its contract.
-use Prim.Native.Nat.{◌-◌}
 use mathlib.Core.Path.{◌≡◌}
 use native.Mathlib.Omega.{arith}
 use Rattle.rows.specs.Rows.{rows, size}

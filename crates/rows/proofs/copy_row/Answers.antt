@@ -1,5 +1,4 @@
 -- `rows::copy_row` meets its contract. The invariant: the first k words of the row are the other row's.
-use Prim.Native.Nat.{◌-◌}
 use native.Mathlib.Omega.{arith}
 use mathlib.Core.Path.{◌≡◌, sym}
 use borrow.Author.Rules.{rules}

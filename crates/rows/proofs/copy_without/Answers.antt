@@ -6,7 +6,6 @@ use borrow.Author.Rules.{rules}
 use mathlib.Core.Path.{◌≡◌, sym, ◌∙◌}
 use mathlib.Core.Bool.{not, ◌&&◌}
 use native.Mathlib.Omega.{arith}
-use Prim.Native.Nat.{◌-◌}
 use Rattle.rows.proofs.copy_without.Goals as goal
 
 pub loop-k-init : goal.loop-k-init

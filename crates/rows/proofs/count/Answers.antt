@@ -1,5 +1,4 @@
 -- `rows::count` meets its contract. The invariant: what is counted and what is left are all members.
-use Prim.Native.Nat.{◌-◌}
 use native.Mathlib.Omega.{arith}
 use mathlib.Core.Path.{◌≡◌, sym, ap, ◌∙◌}
 use borrow.Author.Rules.{rules}

@@ -1,5 +1,4 @@
 -- `rows::is_empty` meets its contract. The invariant: the first k words are taken together.
-use Prim.Native.Nat.{◌-◌}
 use native.Mathlib.Omega.{arith}
 use mathlib.Core.Path.{◌≡◌}
 use borrow.Author.Rules.{rules}

@@ -1,5 +1,4 @@
 -- `rows::join` meets its contract. The invariant: the first k words of the row have what either row had.
-use Prim.Native.Nat.{◌-◌}
 use native.Mathlib.Omega.{arith}
 use mathlib.Core.Bool.{◌||◌}
 use mathlib.Core.Path.{◌≡◌, ap₂, ◌∙◌, sym}

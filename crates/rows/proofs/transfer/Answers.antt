@@ -1,5 +1,4 @@
 -- `rows::transfer` meets its contract. The invariant: the first k words of the row have what the rule adds to them.
-use Prim.Native.Nat.{◌-◌}
 use native.Mathlib.Omega.{arith}
 use mathlib.Core.Bool.{not, ◌&&◌, ◌||◌}
 use mathlib.Core.Path.{◌≡◌, sym, ◌∙◌}

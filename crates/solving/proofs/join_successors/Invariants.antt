@@ -1,5 +1,5 @@
 -- `solving::join_successors` meets its contract. The invariant: the targets of the edges from place i on are joined.
-use Prim.Native.Nat.{◌-◌, ◌≤◌}
+use Prim.Native.Nat.{◌≤◌}
 use mathlib.Core.Path.{◌≡◌}
 use lib.ListN.{length}
 use Rattle.rules.specs.File.{named}

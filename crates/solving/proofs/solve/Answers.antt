@@ -1,8 +1,6 @@
 -- `solving::solve` meets its contract. The invariant: the tables and the worklist stand for the state after as many steps as there were visits.
 use native.Mathlib.Omega.{arith}
-use Prim.Native.Nat.{◌-◌}
 use mathlib.Core.Path.{refl, sym, ◌∙◌}
-use borrow.Author.Tests.{not-true, not-false}
 use Rattle.solving.proofs.Solving.{start-requires, count_fits, start-stands, live-tables, ready, solved, solving-less, solving-more}
 use Rattle.solving.proofs.solve.Goals as goal
 

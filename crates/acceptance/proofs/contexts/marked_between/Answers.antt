@@ -1,7 +1,7 @@
 -- `acceptance::contexts::marked_between` meets its contract. The invariant: no marked context stands from place i on.
 use Prim.Native.Nat.{◌-◌}
 use mathlib.Core.Path.{◌≡◌, sym, ap, subst, ◌∙◌}
-use mathlib.Core.Bool.{false, ◌||◌}
+use mathlib.Core.Bool.{◌||◌}
 use native.Mathlib.Omega.{arith}
 use lib.Dec.{T}
 use Rattle.acceptance.proofs.MarkedContexts.{marked_between, marked-none, marked-behind, marked-before, marked-context, context-none}

@@ -1,5 +1,5 @@
 -- `acceptance::contexts::marked_between` meets its contract. The invariant: no marked context stands from place i on.
-use Prim.Native.Nat.{◌≤◌, ◌-◌}
+use Prim.Native.Nat.{◌≤◌}
 use mathlib.Core.Path.{◌≡◌}
 use mathlib.Core.Bool.{false}
 use Rattle.acceptance.proofs.MarkedContexts.{marked_between}

@@ -5,7 +5,7 @@ use Rattle.graph.specs.ByTable.{index-long, block_listed, walked-few}
 use native.Mathlib.Omega.{arith}
 use mathlib.Core.Bool.{◌||◌}
 use mathlib.Core.Path.{refl, sym, ap, ◌∙◌}
-use Prim.Native.Nat.{◌-◌, ◌+◌}
+use Prim.Native.Nat.{◌+◌}
 use Rattle.acceptance.proofs.contexts.marked_context.Goals as goal
 
 pub loop-i-init : goal.loop-i-init

@@ -1,6 +1,5 @@
 -- `acceptance::verdict::or_refused` meets its contract.
 use Rattle.acceptance.specs.Stages.{then-kept, then-asked}
-use borrow.Author.Tests.{not-true, not-false}
 use Rattle.rules.specs.Refusals.{◌when◌}
 use mathlib.Core.Path.{sym, ◌∙◌}
 use Rattle.acceptance.proofs.verdict.or_refused.Goals as goal

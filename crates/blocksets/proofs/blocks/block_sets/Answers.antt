@@ -1,5 +1,5 @@
 -- `blocksets::blocks::block_sets` meets its contract.
-use Prim.Native.Nat.{◌<◌, ◌-◌, ◌+◌}
+use Prim.Native.Nat.{◌<◌, ◌+◌}
 use mathlib.Core.Path.{◌≡◌, refl, ◌∙◌, ap}
 use lib.ListN.{length, get_or}
 use native.Mathlib.Omega.{arith}

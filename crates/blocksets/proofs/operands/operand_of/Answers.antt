@@ -1,5 +1,4 @@
 -- `blocksets::operands::operand_of` meets its contract.
-use Prim.Native.Nat.{ℕ}
 use mathlib.Core.Path.{◌≡◌, refl}
 use native.Mathlib.Omega.{arith}
 use Rattle.rules.specs.Records.{kind}

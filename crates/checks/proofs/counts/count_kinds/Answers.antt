@@ -5,7 +5,6 @@ use Rattle.lists.specs.Counts.{bit-at-most}
 use Rattle.rules.specs.Records.{record_count}
 use native.Mathlib.Omega.{arith}
 use mathlib.Core.Path.{◌≡◌}
-use Prim.Native.Nat.{◌-◌}
 use Rattle.checks.proofs.counts.count_kinds.Goals as goal
 
 pub loop-i-init : goal.loop-i-init

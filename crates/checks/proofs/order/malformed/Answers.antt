@@ -1,11 +1,10 @@
 -- `checks::order::malformed` meets its contract.
 use native.Mathlib.Omega.{arith}
 use borrow.Author.Rules.{rules}
-use Prim.Native.Nat.{◌-◌, ◌+◌}
+use Prim.Native.Nat.{◌+◌}
 use mathlib.Core.Path.{refl, sym, ap, ◌∙◌}
 use mathlib.Core.Bool.{not}
 use lib.Dec.{eqb}
-use borrow.Author.Tests.{not-true, not-false}
 use Rattle.rules.specs.Records.{encode, record_at}
 use Rattle.lists.specs.Counts.{bit-at-most}
 use Rattle.checks.proofs.Forming.{formed, formed-all, formed-done, formed-order, formed-number, formed-goes, ends-early, words-stand, kind-stands, outside-follows}

@@ -1,6 +1,6 @@
 -- `graph::edges::next_edge` meets its contract.
 use borrow.Author.Rules.{rules}
-use Prim.Native.Nat.{◌-◌, ℕ, ◌+◌}
+use Prim.Native.Nat.{ℕ, ◌+◌}
 use mathlib.Core.Path.{◌≡◌, refl, sym, ap, ◌∙◌}
 use native.Mathlib.Omega.{arith}
 use Rattle.rules.specs.declared.Words.{Words}

@@ -1,5 +1,5 @@
 -- `graph::edges::tail_from` meets its contract.
-use Prim.Native.Nat.{◌-◌, ◌<◌, ◌≤◌}
+use Prim.Native.Nat.{◌<◌, ◌≤◌}
 use Rattle.rules.specs.Records.{kind, record_at}
 use Rattle.graph.proofs.edges.tail_from.Given as goal
 

@@ -11,7 +11,7 @@ use lib.Seq.{length-sets}
 use lib.ListN.{length}
 use native.Mathlib.Omega.{arith}
 use mathlib.Core.Path.{◌≡◌, refl, sym, ap, ◌∙◌}
-use Prim.Native.Nat.{◌+◌, ◌-◌}
+use Prim.Native.Nat.{◌+◌}
 use Rattle.graph.proofs.places.places_of.Goals as goal
 
 pub loop-i-init : goal.loop-i-init

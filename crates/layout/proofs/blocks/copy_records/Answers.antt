@@ -2,7 +2,6 @@
 use borrow.Author.Rules.{rules}
 use mathlib.Core.Path.{◌≡◌, refl}
 use native.Mathlib.Omega.{arith}
-use Prim.Native.Nat.{◌-◌}
 use Rattle.writing.specs.Wrote.{lent-room}
 use Rattle.writing.specs.Places.{wrote-start, wrote-turn, turn-room}
 use Rattle.layout.specs.BlockRuns.{copy_at}

@@ -3,7 +3,6 @@ use borrow.Author.Rules.{rules}
 use mathlib.Core.Path.{◌≡◌, ap}
 use native.Mathlib.Omega.{arith}
 use lib.ListN.{length}
-use Prim.Native.Nat.{◌-◌}
 use Rattle.rows.specs.Rows.{rows}
 use Rattle.writing.specs.Wrote.{lent-room}
 use Rattle.writing.specs.Places.{wrote-start, turn-room}

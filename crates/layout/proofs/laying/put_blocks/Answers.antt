@@ -2,7 +2,6 @@
 use native.Mathlib.Omega.{arith}
 use borrow.Author.Rules.{rules}
 use mathlib.Core.Path.{◌≡◌, refl}
-use Prim.Native.Nat.{◌-◌}
 use Rattle.rows.specs.Rows.{rows}
 use Rattle.writing.specs.Wrote.{lent-room}
 use Rattle.writing.specs.Places.{wrote-start, wrote-turn, turn-room}

@@ -3,7 +3,6 @@ use borrow.Author.Rules.{rules}
 use Rattle.layout.specs.Sizes.{new_value_at}
 use Rattle.writing.specs.Places.{wrote-start, wrote-turn, turn-room}
 use Rattle.writing.specs.Wrote.{lent-room}
-use Prim.Native.Nat.{◌-◌}
 use native.Mathlib.Omega.{arith}
 use mathlib.Core.Path.{◌≡◌, refl}
 use Rattle.layout.proofs.tables.put_new_values.Goals as goal

@@ -1,7 +1,7 @@
 -- `listing::blocks::join_rows` meets its contract.
 use borrow.Author.Rules.{rules}
 use native.Mathlib.Omega.{arith}
-use Prim.Native.Nat.{ℕ, ◌-◌}
+use Prim.Native.Nat.{ℕ}
 use mathlib.Core.Path.{◌≡◌, refl, ◌∙◌, ap}
 use Rattle.rules.specs.Lists.{update, union, NumberSet}
 use Rattle.rows.specs.Rows.{rows, rows-zeros}

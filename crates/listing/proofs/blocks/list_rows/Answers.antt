@@ -1,7 +1,7 @@
 -- `listing::blocks::list_rows` meets its contract.
 use borrow.Author.Rules.{rules}
 use native.Mathlib.Omega.{arith}
-use Prim.Native.Nat.{ℕ, ◌-◌}
+use Prim.Native.Nat.{ℕ}
 use mathlib.Core.Path.{◌≡◌, refl, sym, subst, ◌∙◌, ap}
 use lib.ListN.{length, get_or}
 use Rattle.rules.specs.File.{function_in}

@@ -1,7 +1,7 @@
 -- `listing::firsts::number_instructions` meets its contract.
 use native.Mathlib.Omega.{arith}
 use mathlib.Core.Path.{◌≡◌, refl, ap, subst, ◌∙◌}
-use Prim.Native.Nat.{ℕ, ◌-◌, ◌<◌}
+use Prim.Native.Nat.{ℕ, ◌<◌}
 use lib.ListN.{length, length-set}
 use Rattle.lists.specs.Tests.{is_true}
 use Rattle.rules.specs.Records.{records}

@@ -1,5 +1,5 @@
 -- `listing::numbers::list_numbers` meets its contract.
-use Prim.Native.Nat.{◌-◌, ◌+◌}
+use Prim.Native.Nat.{◌+◌}
 use mathlib.Core.Path.{◌≡◌, refl, sym, ◌∙◌, ap}
 use lib.ListN.{length}
 use lib.Seq.{sets}

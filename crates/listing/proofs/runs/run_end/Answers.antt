@@ -1,8 +1,6 @@
 -- `listing::runs::run_end` meets its contract.
 use mathlib.Core.Path.{refl, sym, ◌∙◌}
-use Prim.Native.Nat.{◌-◌}
 use native.Mathlib.Omega.{arith}
-use Rattle.rules.specs.Records.{kind}
 use Rattle.listing.specs.Parted.{run_none, run_ends, run-goes}
 use borrow.Author.Rules.{rules}
 use Rattle.listing.proofs.runs.run_end.Goals as goal

@@ -1,7 +1,6 @@
 -- `listing::runs::run_end` meets its contract.
 use mathlib.Core.Path.{◌≡◌}
 use Prim.Native.Nat.{◌≤◌, ◌-◌}
-use Rattle.rules.specs.Records.{kind}
 use Rattle.listing.specs.Parted.{run_end}
 use Rattle.listing.proofs.runs.run_end.Given as goal
 

@@ -2,7 +2,6 @@
 use borrow.Author.Rules.{rules}
 use native.Mathlib.Omega.{arith}
 use mathlib.Core.Path.{refl}
-use Prim.Native.Nat.{◌-◌}
 use Rattle.graph.specs.ByTable.{index-long}
 use Rattle.planning.specs.Standing.{tables}
 use Rattle.planner.specs.AllBlocks.{blocks_start, block_read, block-ready, block-turn, blocks_end}

@@ -2,7 +2,6 @@
 use Rattle.planning.proofs.Slotting.{slotted-out, slotted-unspilled, slotted-in}
 use Rattle.planning.proofs.Asking.{asking-room}
 use Rattle.rows.specs.Rows.{rows}
-use borrow.Author.Tests.{not-true, not-false}
 use mathlib.Core.Path.{sym, ◌∙◌}
 use Rattle.planning.proofs.asks.ask_spilled.Goals as goal
 

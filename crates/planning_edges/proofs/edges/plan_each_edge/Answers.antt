@@ -3,7 +3,6 @@ use borrow.Author.Rules.{rules}
 use Rattle.planning_edges.specs.Edges.{edges-begun, edge-ready, edge-done}
 use Rattle.planning.specs.Standing.{tables}
 use native.Mathlib.Omega.{arith}
-use Prim.Native.Nat.{◌-◌}
 use mathlib.Core.Path.{◌≡◌, refl}
 use Rattle.planning_edges.proofs.edges.plan_each_edge.Goals as goal
 

@@ -4,7 +4,6 @@ use borrow.Author.Rules.{rules}
 use Rattle.planning_edges.specs.Passing.{passing-here, passing-later, passing-none}
 use Rattle.rules.specs.Liveness.{is_spilled}
 use Rattle.rules.specs.File.{function_in}
-use Prim.Native.Nat.{◌-◌}
 use mathlib.Core.Path.{refl, sym, ◌∙◌}
 use Rattle.planning_edges.proofs.landings.passes_spilled.Goals as goal
 

@@ -6,11 +6,10 @@ use Rattle.records.specs.Parts.{argument}
 use Rattle.records.specs.Places.{rest}
 use Rattle.rules.specs.Refusals.{fit}
 use Rattle.rules.specs.File.{function_in}
-use borrow.Author.Tests.{not-true, not-false}
 use native.Mathlib.Omega.{arith}
 use mathlib.Core.Path.{◌≡◌, refl, sym, ap, ◌∙◌}
 use mathlib.Core.Bool.{true, false, ◌&&◌}
-use Prim.Native.Nat.{◌-◌, ◌+◌}
+use Prim.Native.Nat.{◌+◌}
 use Rattle.soundness.proofs.fitting.arguments_fit.Goals as goal
 
 pub loop-i-init : goal.loop-i-init

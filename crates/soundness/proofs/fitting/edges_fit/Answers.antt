@@ -7,7 +7,7 @@ use lib.ListN.{get_or, length}
 use native.Mathlib.Omega.{arith}
 use mathlib.Core.Bool.{◌&&◌}
 use mathlib.Core.Path.{◌≡◌, sym, ap, ◌∙◌}
-use Prim.Native.Nat.{◌<◌, ◌-◌, ◌+◌}
+use Prim.Native.Nat.{◌<◌, ◌+◌}
 use Rattle.soundness.proofs.fitting.edges_fit.Goals as goal
 
 pub loop-b-init : goal.loop-b-init

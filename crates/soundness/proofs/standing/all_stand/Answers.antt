@@ -15,7 +15,7 @@ use Rattle.rules.specs.File.{function_in}
 use native.Mathlib.Omega.{arith}
 use mathlib.Core.Path.{◌≡◌, refl, sym, ap, ap₂, ◌∙◌, subst}
 use mathlib.Core.Bool.{◌&&◌, and_assoc, and-true}
-use Prim.Native.Nat.{◌≤◌, ◌+◌, ◌-◌}
+use Prim.Native.Nat.{◌≤◌, ◌+◌}
 use Rattle.soundness.proofs.standing.all_stand.Goals as goal
 
 pub loop-i-init : goal.loop-i-init

@@ -3,7 +3,6 @@ use Rattle.stackslots.proofs.Loop.{going_start, going-turn, going-noted, going_m
 use Rattle.stackslots.specs.Tables.{slot_tables}
 use native.Mathlib.Omega.{arith}
 use native.Mathlib.Numerals.{add-one}
-use Prim.Native.Nat.{◌-◌}
 use Rattle.stackslots.proofs.placing.find_places.Goals as goal
 
 pub loop-i-init : goal.loop-i-init

@@ -5,7 +5,7 @@ use native.Mathlib.Omega.{arith}
 use native.Mathlib.Numerals.{add-one}
 use mathlib.Core.Path.{◌≡◌, ap, refl, ◌∙◌}
 use lib.ListN.{set, length-set}
-use Prim.Native.Nat.{◌-◌, ℕ}
+use Prim.Native.Nat.{ℕ}
 use Rattle.stackslots.proofs.replaying.sizes_of.Goals as goal
 
 pub loop-k-init : goal.loop-k-init

@@ -1,6 +1,5 @@
 -- `writing::run::next_place` meets its contract.
 use borrow.Author.Rules.{rules}
-use Prim.Native.Nat.{◌-◌}
 use mathlib.Core.Path.{refl, sym, ◌∙◌}
 use native.Mathlib.Omega.{arith}
 use Rattle.writing.specs.Next.{next_place-none, next_place-here, next_place-later}

@@ -1,6 +1,5 @@
 -- `writing::run::put_parts` meets its contract.
 use borrow.Author.Rules.{rules}
-use Prim.Native.Nat.{◌-◌}
 use mathlib.Core.Path.{◌≡◌, refl}
 use native.Mathlib.Omega.{arith}
 use Rattle.writing.specs.Parts.{part_at}

@@ -5,7 +5,7 @@ use Rattle.writing.specs.Parts.{slot_in}
 use Rattle.rows.specs.Rows.{rows}
 use Rattle.rules.specs.Graph.{size_of}
 use Rattle.rules.specs.File.{function_in}
-use Prim.Native.Nat.{◌*◌, ◌-◌, min}
+use Prim.Native.Nat.{◌*◌, min}
 use native.Mathlib.Omega.{arith}
 use mathlib.Core.Path.{◌≡◌}
 use Rattle.writing_instructions.proofs.entries.put_listed.Goals as goal
