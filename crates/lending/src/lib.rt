@@ -1,3 +1,3 @@
-// Steps of proofs by hand, for functions that the borrow checker does not cover: a plain struct lent by `&mut`. They are in specs/. There is
-// no code here.
+// Steps of a proof by hand over a plain struct that is lent by `&mut`: theorems of the program's logic, in specs/. No function here needs
+// them any more; there is no code here.
 #![tactic(auto)]
