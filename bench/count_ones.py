@@ -10,13 +10,13 @@ import sys
 WORDS = 8
 
 module = sys.stdin.read()
-found = list(re.finditer(r'(?ms)^(define [^\n]*@"rows::count"\(ptr noundef %a0, i64 noundef %a1\)[^\n]*\{\n).*?^\}\n', module))
+found = list(re.finditer(r'(?ms)^(define [^\n]*@"rows::count"\(ptr noundef %a0, i64 noundef %a1, i64 noundef %a2\)[^\n]*\{\n).*?^\}\n', module))
 if len(found) != 1:
     sys.exit("count_ones: the module does not have rows::count as it was")
 body = [
     "start:",
     "  %words = load ptr, ptr %a0, align 8",
-    "  %offset = shl i64 %a1, 6",
+    "  %offset = shl i64 %a2, 6",
     "  %row = getelementptr i8, ptr %words, i64 %offset",
     "  %sum0 = add i64 0, 0",
 ]
