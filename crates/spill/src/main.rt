@@ -2,24 +2,31 @@
 // it with that error.
 #![tactic(auto)]
 
-ghost use Rattle.std.specs.Prelude.{◌≤◌, ◌<◌, length, take, IfOk};
-ghost use Rattle.std.specs.Io.KnownBytes.{Consumes, IsAtEnd};
+ghost use Rattle.std.specs.Prelude.{◌≤◌, ◌<◌, length, take, IfOk, IfSome, OnOk};
+ghost use Rattle.std.specs.Io.KnownBytes.{Appends, Consumes, IsAtEnd};
+ghost use Rattle.rules.specs.Services.{program_writes};
 
 use program::{PROGRAM_INPUT, PROGRAM_OUTPUT, refused_line, respond, to_write};
 use std::io::{Read, Result, Write};
 
 fn main(rt: HostRuntime) -> Result<()> {
+    spill(&mut rt.stdin(), &mut rt.stdout())
+}
+
+// Reads a file, and writes what the program writes for it. A reader or a writer whose bytes are not known is the system's.
+fn spill<R: Read, W: Write>(reader: &mut R, writer: &mut W) -> Result<()>
+    ensures { OnOk result (IfSome (R.remaining reader.old) (λ s. Appends (W.contents writer.old) (W.contents writer.new) (program_writes s))) }
+{
     // One byte more than the largest input, so that a longer one is told.
     let mut input: [u8; PROGRAM_INPUT + 1] = [0; PROGRAM_INPUT + 1];
     let mut output: [u8; PROGRAM_OUTPUT] = [0; PROGRAM_OUTPUT];
-    let n = read_full(&mut rt.stdin(), &mut input)?;
+    let n = read_full(reader, &mut input)?;
     let answer = respond(&input[..n], &mut output);
     let verdict = answer.verdict;
     let line = refused_line(verdict);
     let bytes = line.bytes;
     let count = line.count;
-    rt.stdout()
-        .write_all(to_write(answer, &input[..n], &output, &bytes[..count]))
+    writer.write_all(to_write(answer, &input[..n], &output, &bytes[..count]))
 }
 
 // Reads until the buffer is full or the input ends, and returns how many bytes it put at the front.
