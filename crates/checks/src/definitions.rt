@@ -30,6 +30,7 @@ pub fn note_definition(w: Words, counts: &mut [u32])
 }
 
 // Whether each of the first values of a table of counts is 1.
+#[tactic(auto, using(crate::proofs::Upward::not_each_once))]
 pub fn each_once(counts: &[u32], values: usize) -> bool
     requires { values ≤ length counts.now }
     ensures { result ≡ all (λ v. eqb (get_or counts.now v 0) 1) (up_from 0 values) }
