@@ -1,16 +1,18 @@
--- Contexts by place: what a loop over a block's records, and one over the reachable blocks, have still to look at.
+-- Contexts by place, and by the list of the reachable blocks.
 use Prim.Native.Nat.{ℕ, zero, suc, ◌+◌, ◌-◌, ◌<◌, ◌≤◌}
-use mathlib.Core.Path.{◌≡◌, refl, sym, ap, subst, ◌∙◌}
+use mathlib.Core.Path.{◌≡◌, refl, sym, ap, ap₂, subst, ◌∙◌}
 use mathlib.Core.Logic.{◌≢◌}
 use mathlib.Core.Bool.{Bool, true, false, ◌&&◌, ◌||◌}
 use mathlib.Core.List.{List, [], ◌∷◌, map}
 use native.Mathlib.Omega.{arith}
-use native.Mathlib.Numerals.{add-one}
-use lib.ListN.{length, get_or, drop}
-use lib.Seq.{drop-cons, drop-length}
+use lib.ListN.{length, get_or, take}
+use lib.Seq.{take-length, take-append_seam}
 use lib.Dec.{T, eqb, eqb→eq, ltb, ltb→lt, nltb→le}
+use Rattle.std.specs.List.{list_any}
+use Rattle.std.proofs.lemmas.List.{get_or_default}
 use borrow.Author.Tests.{eq-eqb, ne_eqb}
 use Rattle.rules.specs.Lists.{any}
+use Rattle.rules.specs.Refusals.{marked_context}
 use Rattle.rules.specs.Tree.{Function}
 use Rattle.rules.specs.Records.{encode, kind, record_at, record_count, records}
 use Rattle.rules.specs.File.{of_kind, named, followers, follows, ordered, function_in}
@@ -28,7 +30,12 @@ use Rattle.graph.specs.Blocks.{contexts-by-place}
 use Rattle.graph.specs.Links.{Walked}
 use Rattle.graph.specs.Tables.{Given}
 use Rattle.acceptance.specs.Marked.{block_marked}
-use Rattle.graph.specs.ByTable.{body-by-table, block-at-index}
+use Rattle.graph.specs.ByTable.{body-by-table, block_listed}
+
+-- the library's `any` is that of the rules
+any-is : (test : ℕ → Bool) (xs : List ℕ) → list_any test xs ≡ any test xs
+any-is test [] = refl
+any-is test (x ∷ xs) = ap (λ b. test x || b) (any-is test xs)
 
 module _ (s : List ℕ) where
   abbrev f : Function
@@ -134,16 +141,14 @@ module _ (s : List ℕ) where
       ∙ ap (any (is_marked f)) (contexts-by-place s g.in_order b l)
       ∙ ap (λ (rs : List Record). any (is_marked f) (named 9 rs)) (sym (body-by-table s places g b l))
 
-  -- the blocks from index j on have one
-  abbrev pub marked_from : ℕ → Bool
-  marked_from j = any (block_marked f) (drop j (reachable f))
+-- THE REACHABLE BLOCKS, where the list is exactly theirs: each is in the file,
+module _ {s places order : List ℕ} (w : Walked s places order (length order)) where
+  pub in-file : (k b : ℕ) → k < length order → b ≡ get_or order k b → b < length (function_in s).blocks
+  in-file k b l e = let listed = block_listed w k l in omega (arith, listed, e, get_or_default order k b 0 l)
 
-  module _ {places order : List ℕ} {count : ℕ} (w : Walked s places order count) (j : ℕ) where
-    pub marked_from-done : j ≡ count → marked_from j ≡ false
-    marked_from-done e = ap (any (block_marked f)) (ap (λ (n : ℕ). drop n (reachable f)) (e ∙ w.counted) ∙ drop-length (reachable f))
+  listed-all : order ≡ reachable (function_in s)
+  listed-all = sym (take-length order) ∙ ap₂ (λ (n : ℕ) (xs : List ℕ). take n xs) w.counted w.listed ∙ take-append_seam (reachable (function_in s)) _
 
-    pub marked_from-more : j < count → marked_from j ≡ block_marked f (get_or order j 0) || marked_from (j + 1)
-    marked_from-more l =
-        ap (any (block_marked f)) (drop-cons (reachable f) j 0 (omega (arith, w.counted)))
-        ∙ ap (λ (x : ℕ). block_marked f x || any (block_marked f) (drop (suc j) (reachable f))) (sym (block-at-index w j))
-        ∙ ap (λ (n : ℕ). block_marked f (get_or order j 0) || any (block_marked f) (drop n (reachable f))) (sym (add-one j))
+  -- and so one has a marked context if a reachable block does.
+  pub marked-listed : (b : Bool) → b ≡ list_any (block_marked (function_in s)) order → b ≡ marked_context (function_in s)
+  marked-listed b e = e ∙ any-is (block_marked (function_in s)) order ∙ ap (any (block_marked (function_in s))) listed-all

@@ -1,59 +1,49 @@
 // Refusal 8: a marked context in a reachable block.
-ghost use Rattle.std.specs.Prelude.{◌≡◌, true, ◌<◌, ◌≤◌, length};
+ghost use Rattle.std.specs.Prelude.{◌≡◌, ◌<◌, ◌≤◌, length};
 ghost use Rattle.rules.specs.Lists.{any};
-ghost use Rattle.rules.specs.Records.{record_count, records};
-ghost use Rattle.rules.specs.File.{named, ordered, function_in};
+ghost use Rattle.rules.specs.Records.{record_count};
+ghost use Rattle.rules.specs.File.{named, function_in};
 ghost use Rattle.rules.specs.Graph.{is_marked};
 ghost use Rattle.rules.specs.Refusals.{marked_context};
 ghost use Rattle.graph.specs.Between.{between};
 ghost use Rattle.graph.specs.Tails.{TailsLast, TailLast};
-ghost use Rattle.graph.specs.Links.{Walked};
-ghost use Rattle.graph.specs.Tables.{Given};
 ghost use Rattle.acceptance.specs.Marked.{block_marked};
 
-use records::in_order::words_at;
-use records::values::is_marked;
+use graph::blocks::{Blocks, Reachable};
+use records::file::File;
+use rules::kinds;
 
 // Whether a marked context stands from a place on and before the block's end. Contexts stand last in a block, so they are read from
 // its end, and nothing else is.
-fn marked_between(s: &[u8], start: usize, end: usize) -> bool
-    requires { (ordered 0 (records s.now) ≡ true) × (start ≤ end) × (end ≤ record_count s.now) × TailLast s.now start end }
-    ensures { result ≡ any (is_marked (function_in s.now)) (named 9 (between s.now start end)) }
+fn marked_between(file: File<'_>, start: usize, end: usize) -> bool
+    requires { (start ≤ end) × (end ≤ record_count file.bytes.now) × TailLast file.bytes.now start end }
+    ensures { result ≡ any (is_marked (function_in file.entry.bytes.now)) (named 9 (between file.entry.bytes.now start end)) }
 {
-    let mut i = end;
-    while i > start {
-        let w = words_at(s, i - 1);
-        if w.kind != 9 {
+    for i in (start..end).rev() {
+        let w = file.words_at(i);
+        if w.kind != kinds::CONTEXT {
             return false;
         }
-        if is_marked(s, w.second) {
+        if file.is_marked(w.second) {
             return true;
         }
-        i -= 1;
     }
     false
 }
 
 // Whether a marked context stands in block b.
-fn marked_in_block(s: &[u8], places: &[usize], b: usize) -> bool
-    requires { Given s.now places.now × (b < length (function_in s.now).blocks) × TailsLast s.now }
-    ensures { result ≡ block_marked (function_in s.now) b }
+fn marked_in_block(blocks: Blocks<'_>, b: usize) -> bool
+    requires { (b < length (function_in blocks.file.bytes.now).blocks) × TailsLast blocks.file.bytes.now }
+    ensures { result ≡ block_marked (function_in blocks.entry.file.bytes.now) b }
 {
-    marked_between(s, places[b] + 1, places[b + 1])
+    let body = blocks.body(b);
+    marked_between(blocks.file, body.start, body.end)
 }
 
 // Whether a marked context stands in a reachable block.
-pub fn marked_context(s: &[u8], places: &[usize], order: &[usize], count: usize) -> bool
-    requires { Walked s.now places.now order.now count }
-    ensures { result ≡ marked_context (function_in s.now) }
+pub fn marked_context(reachable: Reachable<'_>) -> bool
+    ensures { result ≡ marked_context (function_in reachable.entry.blocks.file.bytes.now) }
 {
-    let mut i: usize = 0;
-    while i < count {
-        let b = order[i];
-        if marked_in_block(s, places, b) {
-            return true;
-        }
-        i += 1;
-    }
-    false
+    let blocks = reachable.blocks;
+    reachable.order.iter().any(|&b| marked_in_block(blocks, b))
 }

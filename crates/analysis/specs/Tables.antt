@@ -1,7 +1,7 @@
 -- What the tables of an accepted file serve for: its blocks by their indices, the lists of its safepoints, and the numbers of
 -- its blocks' first instructions.
 use Rattle.std.specs.Prelude.{ℕ, ◌+◌, ◌*◌, ◌<◌, ◌≤◌, ◌≡◌, List, length, replicate}
-use Rattle.std.proofs.Common.{arith}
+use Rattle.std.proofs.Common.{sym, ap, subst, ◌∙◌, arith}
 use Rattle.std.proofs.lemmas.List.{length-replicate}
 use Rattle.rules.specs.Limits.{largest_blocks, largest_instructions, table_words, row_words}
 use Rattle.rules.specs.File.{function_in}
@@ -43,3 +43,17 @@ module _ {s places order index : List ℕ} {blocks : BlockCounts} (h : Indexed s
   pub firsts-made : {firsts : List ℕ} → NumberedTo s (blocks.all + 1) (replicate (largest_blocks + 1) 0) firsts → Firsts s firsts
   firsts-made made =
       numbered-firsts blocks.all h.all-counted (omega (arith, firsts-room, length-replicate {A = ℕ} (largest_blocks + 1) 0)) made
+
+  -- the same of blocks that are the file's, by how many they say they are
+  module _ {blocks_of : List ℕ} {count : ℕ} (same : blocks_of ≡ s) (counted : count ≡ length (function_in blocks_of).blocks) where
+    all-counted : count ≡ blocks.all
+    all-counted = counted ∙ ap (λ (x : List ℕ). length (function_in x).blocks) same ∙ sym h.all-counted
+
+    pub blocks-room : count < largest_blocks + 1
+    blocks-room = omega (arith, all-counted, firsts-room)
+
+    pub firsts-of : {firsts : List ℕ} → NumberedTo blocks_of (count + 1) (replicate (largest_blocks + 1) 0) firsts → Firsts s firsts
+    firsts-of {firsts} made =
+        let lent = replicate (largest_blocks + 1) 0 in
+        let ours = subst (λ x. NumberedTo x (count + 1) lent firsts) same made in
+        firsts-made (subst (λ n. NumberedTo s (n + 1) lent firsts) all-counted ours)

@@ -3,35 +3,36 @@
 
 ghost use Rattle.analysis.specs.Analysis.{live_tables, Analysable, Analysed};
 
-use acceptance::survey::BlockCounts;
 use blocksets::blocks::block_sets;
+use graph::blocks::Reachable;
 use graph::predecessors::link_predecessors;
-use solving::{LivenessCounts, solve};
+use rules::LivenessCounts;
+use solving::equations::{Equations, Predecessors, Rules};
+use solving::solve;
 
 pub mod tables;
 
-// Both live tables of a file that was surveyed and not refused, with the tables that the process needs.
-pub fn analyse(
-    s: &[u8],
-    places: &[usize],
-    order: &[usize],
-    blocks: BlockCounts,
-    first: &mut [usize],
-    from: &mut [usize],
-    next: &mut [usize],
-    uses: &mut [u64],
-    kills: &mut [u64],
+// Both live tables of a file that was surveyed and not refused, with the tables that the process needs. They are lent one by one, as
+// whoever reads them behind it does: a struct of them would have to say that it still holds the same ones.
+pub fn analyse<'t>(
+    reachable: Reachable<'t>,
+    first: &'t mut [usize],
+    from: &'t mut [usize],
+    next: &'t mut [usize],
+    uses: &'t mut [u64],
+    kills: &'t mut [u64],
     ins: &mut [u64],
     outs: &mut [u64],
 ) -> LivenessCounts
-    requires { Analysable s.now places.now order.now blocks (live_tables first.old from.old next.old uses.old kills.old ins.old outs.old) }
-    ensures { Analysed s.now (live_tables first.old from.old next.old uses.old kills.old ins.old outs.old) (live_tables first.new from.new next.new uses.new kills.new ins.new outs.new) result }
+    requires { Analysable reachable.blocks.file.bytes.now (live_tables first.old from.old next.old uses.old kills.old ins.old outs.old) }
+    ensures { Analysed reachable.entry.blocks.file.bytes.now (live_tables first.old from.old next.old uses.old kills.old ins.old outs.old) (live_tables first.new from.new next.new uses.new kills.new ins.new outs.new) result }
 {
-    let all = blocks.all;
-    let count = blocks.reachable;
-    link_predecessors(s, places, order, count, first, from, next);
-    block_sets(s, places, all, uses, kills);
-    solve(
-        s, places, order, count, first, from, next, uses, kills, ins, outs,
-    )
+    link_predecessors(reachable, first, from, next);
+    block_sets(reachable.blocks, uses, kills);
+    let equations = Equations {
+        reachable,
+        predecessors: Predecessors { first, from, next },
+        rules: Rules { uses, kills },
+    };
+    solve(equations, ins, outs)
 }

@@ -1,6 +1,6 @@
 -- THE RULE BY RECORDS. What document 01's rule gives before an instruction is what going back over its records gives,
 -- since they are in order: arguments, results, edges with their arguments, contexts.
-use Rattle.std.specs.Prelude.{ℕ, ◌≡◌, Bool, true, false, not, ◌&&◌, ◌||◌, T, eqb}
+use Rattle.std.specs.Prelude.{ℕ, ◌≡◌, None, Bool, true, false, not, ◌&&◌, ◌||◌, T, eqb}
 use Rattle.std.proofs.Math.Path.{refl, sym, ap, ap₂}
 use Rattle.std.proofs.Common.{◌∙◌}
 use mathlib.Core.List.{List, [], ◌∷◌, ◌++◌, map}
@@ -19,7 +19,6 @@ use Rattle.lists.specs.Tests.{and_left, and_right}
 use Rattle.records.specs.Kinds.{Kinds, of_kind-none}
 use Rattle.records.specs.InOrder.{chain, Sections, whole, kept_by, chain-good}
 use Rattle.records.specs.Parts.{is_instruction, in_body, body-chained, body-allowed, head-instruction, argument, passed-picked}
-use Rattle.blocksets.specs.declared.operands.Operand.TheVariants as operand
 use Rattle.blocksets.specs.Operands.{operand_of, live_before, over-append, back}
 
 -- the values that records of kind 8 pass
@@ -119,25 +118,25 @@ values_among-edges (e ∷ es) =
     ∙ sym (values_among-append e.arguments (concat_map (λ x. x.arguments) es))
 
 -- a record of kind 4 has no operand of its own
-head-neither : (r : Record) → T (eqb (kind r) 4) → operand_of r ≡ operand.Neither
-head-neither (record'.Value _ _) h = absurd h
-head-neither (record'.Block _ _) h = absurd h
-head-neither (record'.Parameter _) h = absurd h
-head-neither (record'.Instruction _ _ _) h = refl
-head-neither (record'.Result _) h = absurd h
-head-neither (record'.Argument _) h = absurd h
-head-neither (record'.Edge _) h = absurd h
-head-neither (record'.EdgeArgument (passes.Value _)) h = absurd h
-head-neither (record'.EdgeArgument (passes.Returned _)) h = absurd h
-head-neither (record'.EdgeArgument (passes.Exception _)) h = absurd h
-head-neither (record'.Context _) h = absurd h
-head-neither (record'.Slot _) h = absurd h
-head-neither (record'.MapEntry _ _) h = absurd h
-head-neither (record'.SlotAddress _ _) h = absurd h
-head-neither (record'.Store _ _) h = absurd h
-head-neither (record'.Load _ _ _) h = absurd h
-head-neither record'.Jump h = absurd h
-head-neither record'.Outside h = absurd h
+head-none : (r : Record) → T (eqb (kind r) 4) → operand_of r ≡ None
+head-none (record'.Value _ _) h = absurd h
+head-none (record'.Block _ _) h = absurd h
+head-none (record'.Parameter _) h = absurd h
+head-none (record'.Instruction _ _ _) h = refl
+head-none (record'.Result _) h = absurd h
+head-none (record'.Argument _) h = absurd h
+head-none (record'.Edge _) h = absurd h
+head-none (record'.EdgeArgument (passes.Value _)) h = absurd h
+head-none (record'.EdgeArgument (passes.Returned _)) h = absurd h
+head-none (record'.EdgeArgument (passes.Exception _)) h = absurd h
+head-none (record'.Context _) h = absurd h
+head-none (record'.Slot _) h = absurd h
+head-none (record'.MapEntry _ _) h = absurd h
+head-none (record'.SlotAddress _ _) h = absurd h
+head-none (record'.Store _ _) h = absurd h
+head-none (record'.Load _ _ _) h = absurd h
+head-none record'.Jump h = absurd h
+head-none record'.Outside h = absurd h
 
 -- AN INSTRUCTION'S SECTION of a file in order
 module _ (f : Function) (t : Section) (h : T (is_instruction t)) where
@@ -166,7 +165,7 @@ module _ (f : Function) (t : Section) (h : T (is_instruction t)) where
 
   pub back_whole : (live : NumberSet) → back f (whole t) live ≡ before f (instruction_of t) live
   back_whole live =
-      ap (λ x. live_before f x (back f t.body live)) (head-neither t.head (head-instruction t h)) ∙ back-body live
+      ap (λ x. live_before f x (back f t.body live)) (head-none t.head (head-instruction t h)) ∙ back-body live
 
 -- and over all records of some instructions what is live before them
 pub back-sections :

@@ -6,17 +6,15 @@ ghost use Rattle.rows.specs.Rows.{rows};
 ghost use Rattle.blocksets.specs.InRows.{SetTables};
 
 use crate::operands::collect_sets;
+use graph::blocks::Blocks;
 
 // Each block's row of what it uses before it defines it, and of what it defines; also of blocks that are not reachable.
-pub fn block_sets(s: &[u8], places: &[usize], blocks: usize, uses: &mut [u64], kills: &mut [u64])
-    requires { SetTables s.now places.now blocks uses.old kills.old }
-    ensures { (rows uses.new ≡ uses_of (function_in s.now)) × (rows kills.new ≡ kills_of (function_in s.now)) }
+pub fn block_sets(blocks: Blocks<'_>, uses: &mut [u64], kills: &mut [u64])
+    requires { SetTables blocks.file.bytes.now blocks.places.now blocks.count uses.old kills.old }
+    ensures { (rows uses.new ≡ uses_of (function_in blocks.entry.file.bytes.now)) × (rows kills.new ≡ kills_of (function_in blocks.entry.file.bytes.now)) }
 {
-    let mut b: usize = 0;
-    while b < blocks {
-        let start = places[b] + 1;
-        let end = places[b + 1];
-        collect_sets(s, start, end, uses, kills, b);
-        b += 1;
+    for b in 0..blocks.count {
+        let body = blocks.body(b);
+        collect_sets(blocks.file, body.start, body.end, uses, kills, b);
     }
 }

@@ -1,26 +1,19 @@
--- Tests of the numbers from one on, one number more.
-use Prim.Native.Nat.{ℕ, suc, ◌+◌, ◌-◌, ◌<◌}
-use mathlib.Core.Path.{◌≡◌, ap, ◌∙◌}
-use mathlib.Core.Bool.{Bool, false, ◌&&◌}
-use mathlib.Core.List.{List, ◌∷◌}
-use lib.Dec.{eqb}
-use lib.ListN.{get_or}
-use borrow.Author.Tests.{ne_eqb}
+-- A test of the first numbers of a table is one of their places.
+use Prim.Native.Nat.{ℕ, zero, suc, ◌≤◌}
+use mathlib.Core.Path.{◌≡◌, refl, sym, ap, ◌∙◌}
+use mathlib.Core.Bool.{Bool, ◌&&◌}
+use mathlib.Core.List.{List, [], ◌∷◌}
+use lib.ListN.{length, take, get_or}
 use native.Mathlib.Omega.{arith}
+use Rattle.std.specs.List.{list_all}
 use Rattle.rules.specs.Lists.{all, up_from}
 
-up_from-next : (v n : ℕ) → v < n → up_from v (n - v) ≡ v ∷ up_from (v + 1) (n - (v + 1))
-up_from-next v n h =
-    let more : n - v ≡ suc (n - (v + 1)) = omega arith in
-    let next : suc v ≡ v + 1 = omega arith in
-    ap (up_from v) more ∙ ap (λ k. v ∷ up_from k (n - (v + 1))) next
+all-up_from-shift : (q : ℕ → Bool) (k n : ℕ) → all q (up_from (suc k) n) ≡ all (λ v. q (suc v)) (up_from k n)
+all-up_from-shift q k zero = refl
+all-up_from-shift q k (suc n) = ap (λ b. q (suc k) && b) (all-up_from-shift q (suc k) n)
 
-pub all-up_from-next : (p : ℕ → Bool) (v n : ℕ) → v < n → all p (up_from v (n - v)) ≡ (p v && all p (up_from (v + 1) (n - (v + 1))))
-all-up_from-next p v n h = ap (all p) (up_from-next v n h)
-
--- where a number of a table is not 1, not all from its place on are
-pub not_each_once :
-    (t : List ℕ) (v n : ℕ) → v < n → (get_or t v 0 ≡ 1 → ⊥) → all (λ x. eqb (get_or t x 0) 1) (up_from v (n - v)) ≡ false
-not_each_once t v n h other =
-    all-up_from-next (λ x. eqb (get_or t x 0) 1) v n h
-    ∙ ap (λ b. b && all (λ x. eqb (get_or t x 0) 1) (up_from (v + 1) (n - (v + 1)))) (ne_eqb (get_or t v 0) 1 other)
+pub all-by-place : (p : ℕ → Bool) (t : List ℕ) (n : ℕ) → n ≤ length t → list_all p (take n t) ≡ all (λ v. p (get_or t v 0)) (up_from 0 n)
+all-by-place p t zero h = refl
+all-by-place p [] (suc n) h = absurd (omega arith)
+all-by-place p (x ∷ t) (suc n) h =
+    ap (λ b. p x && b) (all-by-place p t n (omega arith) ∙ sym (all-up_from-shift (λ v. p (get_or (x ∷ t) v 0)) 0 n))

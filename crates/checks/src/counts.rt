@@ -1,24 +1,14 @@
 // Refusal 3: the largest counts, of all records and of values, blocks, instructions and edges.
-ghost use Rattle.std.specs.Prelude.{◌≡◌, ◌≤◌, eqb, ltb};
+ghost use Rattle.std.specs.Prelude.{◌≡◌, ◌≤◌, ltb};
 ghost use Rattle.rules.specs.Limits.{largest_records};
-ghost use Rattle.rules.specs.Records.{bit, record_count};
+ghost use Rattle.rules.specs.Records.{record_count};
 ghost use Rattle.checks.specs.Counts.{CountsOf, above_largest};
 
 use records::word_at;
 use rules::{
     LARGEST_BLOCKS, LARGEST_EDGES, LARGEST_INSTRUCTIONS, LARGEST_RECORDS, LARGEST_VALUES,
-    RECORD_BYTES,
+    RECORD_BYTES, kinds,
 };
-
-// What a record counts for: 1 where its kind is the one that is counted.
-pub fn one_if_same(a: u32, b: u32) -> u32
-    ensures { result ≡ bit (eqb a b) }
-{
-    if a == b {
-        return 1;
-    }
-    0
-}
 
 // How many values, blocks, instructions and edges a file has, by the first words of its records alone.
 #[derive(Clone, Copy)]
@@ -34,19 +24,16 @@ pub fn count_kinds(s: &[u8]) -> KindCounts
     requires { record_count s.now ≤ largest_records }
     ensures { CountsOf s.now result }
 {
-    let n = s.len() / RECORD_BYTES;
     let mut values: u32 = 0;
     let mut blocks: u32 = 0;
     let mut instructions: u32 = 0;
     let mut edges: u32 = 0;
-    let mut i: usize = 0;
-    while i < n {
+    for i in 0..s.len() / RECORD_BYTES {
         let k = word_at(s, RECORD_BYTES * i);
-        values += one_if_same(1, k);
-        blocks += one_if_same(2, k);
-        instructions += one_if_same(4, k);
-        edges += one_if_same(7, k);
-        i += 1;
+        values += u32::from(k == kinds::VALUE);
+        blocks += u32::from(k == kinds::BLOCK);
+        instructions += u32::from(k == kinds::INSTRUCTION);
+        edges += u32::from(k == kinds::EDGE);
     }
     KindCounts {
         values: values as usize,
@@ -67,14 +54,8 @@ pub fn too_long(s: &[u8]) -> bool
 pub fn above_largest(of: KindCounts) -> bool
     ensures { result ≡ above_largest of }
 {
-    if LARGEST_VALUES < of.values {
-        return true;
-    }
-    if LARGEST_BLOCKS < of.blocks {
-        return true;
-    }
-    if LARGEST_INSTRUCTIONS < of.instructions {
-        return true;
-    }
-    LARGEST_EDGES < of.edges
+    LARGEST_VALUES < of.values
+        || LARGEST_BLOCKS < of.blocks
+        || LARGEST_INSTRUCTIONS < of.instructions
+        || LARGEST_EDGES < of.edges
 }

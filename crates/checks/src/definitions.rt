@@ -4,43 +4,31 @@ ghost use Rattle.std.specs.Prelude.{◌≡◌, ◌≤◌, ◌<◌, length, get_o
 ghost use Rattle.rules.specs.Lists.{all, up_from};
 ghost use Rattle.checks.specs.Definitions.{defines, noted};
 
-use rules::Words;
+use rules::{Words, kinds};
 
 // Whether four words are a parameter or a result.
 fn is_definition(w: Words) -> bool
     ensures { result ≡ defines w }
 {
-    if w.kind == 3 {
-        return true;
-    }
-    w.kind == 5
+    matches!(w.kind, kinds::PARAMETER | kinds::RESULT)
 }
 
 // One definition more of the value that four words define, if it has a place in the table.
+#[tactic(auto, unfolding(crate::specs::Definitions::noted))]
 pub fn note_definition(w: Words, counts: &mut [u32])
     requires { get_or counts.old w.second 0 < 4294967295 }
     ensures { counts.new ≡ noted counts.old w }
 {
-    if is_definition(w) {
-        let v = w.second as usize;
-        if v < counts.len() {
-            counts[v] += 1;
-        }
+    let v = w.second as usize;
+    if is_definition(w) && v < counts.len() {
+        counts[v] += 1;
     }
 }
 
 // Whether each of the first values of a table of counts is 1.
-#[tactic(auto, using(crate::proofs::Upward::not_each_once))]
 pub fn each_once(counts: &[u32], values: usize) -> bool
     requires { values ≤ length counts.now }
     ensures { result ≡ all (λ v. eqb (get_or counts.now v 0) 1) (up_from 0 values) }
 {
-    let mut v: usize = 0;
-    while v < values {
-        if counts[v] != 1 {
-            return false;
-        }
-        v += 1;
-    }
-    true
+    counts[..values].iter().all(|count| *count == 1)
 }

@@ -40,7 +40,7 @@ kind_weight-small k = go (eqb k 7) (has k (3 ∷ 5 ∷ 6 ∷ 8 ∷ []))
     go false true = omega arith
     go false false = omega arith
 
-weight-small : (k tag : ℕ) → weight k tag ≤ 3
+pub weight-small : (k tag : ℕ) → weight k tag ≤ 3
 weight-small k zero = omega arith
 weight-small k (suc _) = kind_weight-small k
 

@@ -1,5 +1,5 @@
 -- DEMAND 3: the original and what rewriting leaves are seen to do the same.
-use Rattle.std.specs.Prelude.{ℕ, not, List, [], ◌∷◌, length, T}
+use Rattle.std.specs.Prelude.{ℕ, not, List, [], ◌∷◌, length, T, is_ok}
 use Rattle.std.proofs.Common.{sym, subst, arith}
 use Rattle.std.proofs.Math.Dec.{not_T}
 use Rattle.rules.specs.Lists.{empty, members}
@@ -8,7 +8,7 @@ use Rattle.rules.specs.Records.{IsBytes}
 use Rattle.rules.specs.File.{function_in}
 use Rattle.rules.specs.Liveness.{is_spilled}
 use Rattle.rules.specs.Rewriting.{rewritten}
-use Rattle.rules.specs.Services.{is_accepted, is_unchanged, rewriting_answer}
+use Rattle.rules.specs.Services.{is_unchanged, rewriting_answer}
 use Rattle.rules.specs.Demand3.{Dominated, final_file, Demand3}
 use Rattle.lists.specs.Tests.{test-elim}
 use Rattle.lists.specs.Members.{◌∈◌, not-∈-nil}
@@ -40,7 +40,7 @@ none-spilled f u v =
 
 -- An accepted file and what rewriting leaves of it are related.
 pub final-related : (s : List ℕ) (pointer n : ℕ) → IsBytes s
-    → T (is_accepted (rewriting_answer s pointer n).verdict) → Dominated (function_in s)
+    → T (is_ok (rewriting_answer s pointer n)) → Dominated (function_in s)
     → Related (function_in s) (function_in (final_file s pointer n))
 final-related s pointer n is_bytes accepted dominated =
     let f = function_in s in

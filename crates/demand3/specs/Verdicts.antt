@@ -1,6 +1,6 @@
 -- What it says of a file that rewriting accepts it: no refusal applies, and its tree is as the laws of rewriting ask.
-use Rattle.std.specs.Prelude.{ℕ, ◌*◌, ◌%◌, ◌≡◌, refl, Bool, true, false, not, ◌&&◌, ◌||◌, List, [], ◌∷◌, ◌++◌, map, length, T, ltb, eqb}
-use Rattle.std.proofs.Common.{sym, ap, subst, ◌∙◌, T_not, eqb→eq}
+use Rattle.std.specs.Prelude.{ℕ, ◌*◌, ◌%◌, ◌≡◌, refl, Bool, true, false, not, ◌&&◌, ◌||◌, List, [], ◌∷◌, ◌++◌, map, length, T, ltb, eqb, is_ok}
+use Rattle.std.proofs.Common.{sym, ap, subst, ◌∙◌, eqb→eq}
 use mathlib.Core.List.Memᴰ
 use Rattle.rules.specs.Limits.{record_bytes}
 use Rattle.rules.specs.Lists.{all}
@@ -8,11 +8,12 @@ use Rattle.rules.specs.Tree.{instruction, Block}
 use Rattle.rules.specs.Records.{kind, records}
 use Rattle.rules.specs.File.{Section, cut, ordered, instruction_of, item_of, opens_item, block_of, function, function_in}
 use Rattle.rules.specs.Graph.{instructions_of}
-use Rattle.rules.specs.Refusals.{Refusal, ◌when◌, first_of, too_many, numbered_from, numbers_in_file, defined_once, sound, marked_context}
+use Rattle.rules.specs.Refusals.{◌when◌, too_many, numbered_from, numbers_in_file, defined_once, sound, marked_context}
 use Rattle.rules.specs.Refusals.{spilled_size, file_refusals}
-use Rattle.rules.specs.Services.{is_accepted, is_unchanged, records_of, rewriting_verdict, rewriting_answer}
+use Rattle.rules.specs.Services.{is_unchanged, records_of, rewriting_verdict, rewriting_answer}
 use Rattle.rules.specs.declared.Record.{Record}
-use Rattle.rules.specs.declared.Verdict.TheVariants as verdict
+use Rattle.rules.specs.declared.Refusal.TheVariants as refusal
+use Rattle.lists.specs.Calls.{passed-ok, answered-passes, none-applies}
 use Rattle.lists.specs.Tests.{T_and, and_left, and_right, is_true}
 use Rattle.lists.specs.Members.{◌∈◌, all→∈}
 use Rattle.walks.specs.InFile.{blocks-some}
@@ -34,36 +35,24 @@ pub record FileAccepted (s : List ℕ) (pointer n : ℕ) : Type 0 where
   pub slot-sizes : T (not (spilled_size (function_in s)))
   pub room : T (not (not (is_unchanged (function_in s)) && ltb n (record_bytes * records_of s pointer)))
 
--- no refusal of a list applies
-abbrev NoneApplies : List Refusal → Type 0
-NoneApplies [] = Unit
-NoneApplies (r ∷ rs) = T (not r.applies) × NoneApplies rs
-
--- where the call is answered none does
-none-applies : (rs : List Refusal) → T (all (λ r. not (is_accepted r.why)) rs) → T (is_accepted (first_of rs)) → NoneApplies rs
-none-applies [] refuses t = tt
-none-applies (r ∷ rs) refuses t = go r.applies t (none-applies rs (and_right (not (is_accepted r.why)) (all (λ r. not (is_accepted r.why)) rs) refuses))
-  where
-    go : (c : Bool) → T (is_accepted (elim c [ true ↦ r.why | false ↦ first_of rs ])) → (T (is_accepted (first_of rs)) → NoneApplies rs)
-        → T (not c) × NoneApplies rs
-    go true t later = absurd (T_not (is_accepted r.why) (and_left (not (is_accepted r.why)) (all (λ r. not (is_accepted r.why)) rs) refuses) t)
-    go false t later = (tt, later t)
-
 -- a test that does not fail passes
 not-not : (b : Bool) → T (not (not b)) → T b
 not-not true t = tt
 not-not false t = absurd t
 
 -- An answered call says all of it.
-pub file-accepted : (s : List ℕ) (pointer n : ℕ) → T (is_accepted (rewriting_answer s pointer n).verdict) → FileAccepted s pointer n
+pub file-accepted : (s : List ℕ) (pointer n : ℕ) → T (is_ok (rewriting_answer s pointer n)) → FileAccepted s pointer n
 unfolding rewriting_answer rewriting_verdict file_refusals
 file-accepted s pointer n t =
     let f = function_in s in
+    let count = records_of s pointer in
     let last =
-    (verdict.SlotSize when spilled_size f)
-    ∷ (verdict.TooShort when (not (is_unchanged f) && ltb n (record_bytes * records_of s pointer)))
+    (refusal.SlotSize when spilled_size f)
+    ∷ (refusal.TooShort count when (not (is_unchanged f) && ltb n (record_bytes * count)))
     ∷ [] in
-    let none = none-applies ((verdict.PointerSize when not (eqb pointer 4 || eqb pointer 8)) ∷ (file_refusals s ++ last)) tt t in
+    let none =
+    none-applies ((refusal.PointerSize when not (eqb pointer 4 || eqb pointer 8)) ∷ (file_refusals s ++ last))
+    (passed-ok (rewriting_verdict s pointer n) (answered-passes (rewriting_verdict s pointer n) _ t)) in
     let order = T_and (ordered 0 (records s)) (numbered_from 0 f.blocks) (not-not (ordered 0 (records s) && numbered_from 0 f.blocks) none.1.1.1.0) in
     record {
       pointer-size = not-not (eqb pointer 4 || eqb pointer 8) none.0;

@@ -5,31 +5,30 @@ ghost use Rattle.std.specs.Prelude.{◌≡◌};
 ghost use Rattle.outcomes.specs.Outcomes.{FinalAllows};
 ghost use Rattle.finals.specs.Finals.{first_records};
 
-use acceptance::verdict::is_accepted;
-use rules::{RECORD_BYTES, RewritingAnswer};
+use rules::{RECORD_BYTES, Refusal, RewritingAnswer};
 
 // The first records of a buffer; none where it is shorter.
 fn first_records<'a>(buffer: &'a [u8], records: u32) -> &'a [u8]
     ensures { result.now ≡ first_records buffer.now records }
 {
-    let n = RECORD_BYTES * (records as usize);
-    if n <= buffer.len() {
-        return &buffer[..n];
+    match buffer.get(..RECORD_BYTES * (records as usize)) {
+        Some(first) => first,
+        None => &[],
     }
-    &buffer[..0]
 }
 
 // The first records of the input where it is unchanged, else of the output, as many as an answer says. The answer may be
 // any, also one that no call gave: for a refusal, and where the chosen buffer is shorter, there are none.
-pub fn final_records<'a>(answer: RewritingAnswer, input: &'a [u8], output: &'a [u8]) -> &'a [u8]
+pub fn final_records<'a>(
+    answer: Result<RewritingAnswer, Refusal>,
+    input: &'a [u8],
+    output: &'a [u8],
+) -> &'a [u8]
     ensures { FinalAllows answer input.now output.now result.now }
 {
-    let verdict = answer.verdict;
-    if !is_accepted(verdict) {
-        return &input[..0];
-    }
-    if answer.unchanged {
-        return first_records(input, answer.records);
-    }
-    first_records(output, answer.records)
+    let Ok(rewritten) = answer else {
+        return &[];
+    };
+    let chosen = if rewritten.unchanged { input } else { output };
+    first_records(chosen, rewritten.records)
 }

@@ -7,3 +7,4 @@ pub mod Turning
 pub mod Ways
 pub mod Walking
 pub mod Linking
+pub mod Finding

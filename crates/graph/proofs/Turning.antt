@@ -1,11 +1,12 @@
 -- A turn keeps what holds between turns, and is a step of the machine.
-use Prim.Native.Nat.{ℕ, zero, suc, ◌+◌, ◌-◌, ◌<◌, ◌≤◌}
+use Prim.Native.Nat.{ℕ, suc, ◌+◌, ◌-◌, ◌<◌, ◌≤◌}
 use mathlib.Core.Path.{◌≡◌, refl, sym, ◌∙◌, subst}
 use mathlib.Core.Logic.{◌≢◌}
 use mathlib.Core.HLevel.{¬_prop}
 use mathlib.Core.Bool.{not}
 use mathlib.Core.List.{List, [], ◌∷◌, reverse, Pairwise-reverse_aux}
 use native.Mathlib.Omega.{arith}
+use Rattle.std.specs.Prelude.{Option, Some, None}
 use lib.ListN.{length, get_or, set, take, length-set, length-reverse}
 use lib.Seq.{get_or-set_same, get_or-set_other, length-take-le}
 use lib.Dec.{T, T_not, not_T, eqb, eqb→eq}
@@ -21,6 +22,7 @@ use Rattle.walks.specs.Machine.{Frame, Machine, blocks_on, Stacked, Kept, Going,
 use Rattle.graph.specs.Between.{between}
 use Rattle.graph.specs.Tails.{TailLast, tail_last-later}
 use Rattle.graph.specs.NextEdge.{Taken, edge_from, edge_from-taken}
+use Rattle.graph.specs.declared.edges.NextEdge.{NextEdge}
 use Rattle.graph.specs.Tables.{Tables, finish_top, enter_block, look_from, take_edge, turn_by, turn_on, frame_of, frame_at, stage_of, machine_of, Given, Room, Clear, Ready}
 use Rattle.graph.specs.ByTable.{some, end-le, start-less, edges-all, block-tail}
 use Rattle.graph.proofs.Tags.{Tagged, tagged-more, tagged-other}
@@ -264,9 +266,9 @@ module _ (s places : List ℕ) (t : Tables) (r : Ready s places t) (opened : 0 <
         if-elim Turned (eqb (get_or t.index u 0) 0) (enter_block places u (look_from p t)) (look_from p t) enter-turned skip-turned
 
   -- what is found decides
-  by_turned : (tag behind : ℕ) → Taken s (get_or t.next top 0) (get_or places (b + 1) 0) edges (record { tag = tag; behind = behind }) → Turned (turn_by places tag behind t)
-  by_turned zero behind h = finish-turned h
-  by_turned (suc u) behind h = take-turned u behind h.0 h.1 h.2
+  by_turned : (e : Option NextEdge) → Taken s (get_or t.next top 0) (get_or places (b + 1) 0) edges e → Turned (turn_by places e t)
+  by_turned None h = finish-turned h
+  by_turned (Some x) h = take-turned x.target x.behind h.0 h.1 h.2
 
   -- where the next edge is looked for
   pub looks-in-block : get_or t.next top 0 ≤ get_or places (b + 1) 0
@@ -286,6 +288,4 @@ module _ (s places : List ℕ) (t : Tables) (r : Ready s places t) (opened : 0 <
   -- A turn is a step, and leaves everything ready for the next.
   pub turned : Turned (turn_on s places t)
   unfolding turn_on
-  turned =
-      let x = edge_from s (get_or t.next top 0) (get_or places (b + 1) 0) in
-      by_turned x.tag x.behind taken
+  turned = by_turned _ taken

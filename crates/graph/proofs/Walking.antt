@@ -125,7 +125,7 @@ module _ (s places : List ℕ) (lent t : Tables) (h : Lent s places lent) (r : R
       twice true u = tt
       twice false u = u
 
-  pub end-numbered : Numbered (function_in s) lent (tables t.order t.index t.stack t.next 0 t.count)
+  end-numbered : Numbered (function_in s) lent (tables t.order t.index t.stack t.next 0 t.count)
   end-numbered =
       record {
         count = sym (length-take-le t.count t.order r.counted) ∙ ap length all_done;
@@ -143,3 +143,9 @@ module _ (s places : List ℕ) (lent t : Tables) (h : Lent s places lent) (r : R
             ext_get_or 0 t.next lent.next z.next
             (λ j l. r.clear.next j (omega arith) ∙ sym (zeros-at h.next j));
       }
+
+  -- and the lent tables have what the walk's have
+  pub handed_back :
+      (order index stack next : List ℕ) → order ≡ t.order → index ≡ t.index → stack ≡ t.stack → next ≡ t.next
+      → Numbered (function_in s) lent (tables order index stack next 0 t.count)
+  handed_back order index stack next o i k n = rw (o, i, k, n) end-numbered

@@ -2,10 +2,12 @@ pub mod Zeros
 pub mod Between
 pub mod Tails
 pub mod Sections
+pub mod Next
 pub mod Placed
 pub mod Blocks
 pub mod NextEdge
 pub mod Tables
+pub mod Walk
 pub mod Few
 pub mod Links
 pub mod Values

@@ -1,6 +1,6 @@
--- The next edge from a place on. An edge is written as a tag: 0 for none, and one more than its target for one.
-use Rattle.std.specs.Prelude.{ℕ, zero, suc, ◌+◌, ◌-◌, ◌<◌, ◌≤◌, ◌≡◌, refl, Bool, true, false, List, [], ◌∷◌, map, eqb}
-use Rattle.std.proofs.Common.{ap, arith}
+-- The next edge from a place on.
+use Rattle.std.specs.Prelude.{ℕ, zero, suc, ◌+◌, ◌-◌, ◌<◌, ◌≤◌, ◌≡◌, refl, Bool, true, false, Option, Some, None, List, [], ◌∷◌, map, eqb}
+use Rattle.std.proofs.Common.{ap, subst, arith}
 use Rattle.rules.specs.declared.Words.{Words}
 use Rattle.rules.specs.Records.{encode, kind, record_at, record_count}
 use Rattle.rules.specs.File.{of_kind, named}
@@ -8,40 +8,29 @@ use Rattle.rules.specs.declared.Record.{Record}
 use Rattle.graph.specs.declared.edges.NextEdge.{NextEdge}
 use Rattle.graph.specs.Between.{between, between_none, between_more}
 
--- the tag of a record
-abbrev pub edge_tag : Record → ℕ
-edge_tag r = elim (eqb (kind r) 7) [ true ↦ suc (encode r).second | false ↦ 0 ]
-
--- an edge by its tag and the place behind it, or else another
-abbrev pub edge_or : ℕ → ℕ → NextEdge → NextEdge
-edge_or zero behind later = later
-edge_or (suc t) behind later = record { tag = suc t; behind = behind }
+-- the edge that a record is, if it is one, with the place behind it, or else another
+abbrev pub edge_or : Record → ℕ → Option NextEdge → Option NextEdge
+edge_or r behind later =
+    elim (eqb (kind r) 7) [ true ↦ Some (record { target = (encode r).second; behind = behind }) | false ↦ later ]
 
 -- the first edge among records of which the first stands at place p, and the place behind it
-abbrev pub next_edge : ℕ → List Record → NextEdge
-next_edge p [] = record { tag = 0; behind = p }
-next_edge p (r ∷ rs) = edge_or (edge_tag r) (suc p) (next_edge (suc p) rs)
+abbrev pub next_edge : ℕ → List Record → Option NextEdge
+next_edge p [] = None
+next_edge p (r ∷ rs) = edge_or r (suc p) (next_edge (suc p) rs)
 
 -- the first edge between two places, and the place behind it
-unfoldable pub edge_from : List ℕ → ℕ → ℕ → NextEdge
+unfoldable pub edge_from : List ℕ → ℕ → ℕ → Option NextEdge
 edge_from s p q = next_edge p (between s p q)
 
--- Of the targets of the edges from place p on and before place q, a tag is the first, and the others stand behind it.
-abbrev pub Taken : List ℕ → ℕ → ℕ → List ℕ → NextEdge → Type 0
-Taken s p q targets e = go e.tag
-  where
-    go : ℕ → Type 0
-    go zero = targets ≡ []
-    go (suc t) = (targets ≡ t ∷ named 7 (between s e.behind q)) × (e.behind ≤ q) × (p < e.behind)
+-- Of the targets of the edges from place p on and before place q, an edge has the first, and the others stand behind it.
+abbrev pub Taken : List ℕ → ℕ → ℕ → List ℕ → Option NextEdge → Type 0
+Taken s p q targets None = targets ≡ []
+Taken s p q targets (Some e) = (targets ≡ e.target ∷ named 7 (between s e.behind q)) × (e.behind ≤ q) × (p < e.behind)
 
 module _ (s : List ℕ) (q : ℕ) where
-  taken-sooner : (p : ℕ) (targets : List ℕ) (e : NextEdge) → Taken s (suc p) q targets e → Taken s p q targets e
-  taken-sooner p targets e = go e.tag e.behind
-    where
-      go : (tag behind : ℕ) → Taken s (suc p) q targets (record { tag = tag; behind = behind })
-          → Taken s p q targets (record { tag = tag; behind = behind })
-      go zero behind h = h
-      go (suc t) behind h = let l = h.2 in (h.0, h.1, omega arith)
+  taken-sooner : (p : ℕ) (targets : List ℕ) (e : Option NextEdge) → Taken s (suc p) q targets e → Taken s p q targets e
+  taken-sooner p targets None h = h
+  taken-sooner p targets (Some e) h = let l = h.2 in (h.0, h.1, omega arith)
 
   taken_more : (r : Record) (p : ℕ) (rs : List Record) → suc p ≤ q → rs ≡ between s (suc p) q
       → Taken s (suc p) q (named 7 rs) (next_edge (suc p) rs) → Taken s p q (named 7 (r ∷ rs)) (next_edge p (r ∷ rs))
@@ -49,7 +38,7 @@ module _ (s : List ℕ) (q : ℕ) where
     where
       go : (o : Bool)
           → Taken s p q (map (λ (w : Words). w.second) (elim o [ true ↦ encode r ∷ of_kind 7 rs | false ↦ of_kind 7 rs ]))
-          (edge_or (elim o [ true ↦ suc (encode r).second | false ↦ 0 ]) (suc p) (next_edge (suc p) rs))
+          (elim o [ true ↦ Some (record { target = (encode r).second; behind = suc p }) | false ↦ next_edge (suc p) rs ])
       go true = (ap (λ (t : List Record). (encode r).second ∷ named 7 t) e, l, omega arith)
       go false = taken-sooner p (named 7 rs) (next_edge (suc p) rs) later
 
@@ -67,22 +56,17 @@ module _ (s : List ℕ) (q : ℕ) where
   edge_from-taken p l k = taken-from (q - p) p (omega arith) k
 
 -- the targets from an edge on
-abbrev pub targets_from : List ℕ → ℕ → ℕ → ℕ → List ℕ
-targets_from s q zero behind = []
-targets_from s q (suc t) behind = t ∷ named 7 (between s behind q)
+abbrev pub targets_from : List ℕ → ℕ → Option NextEdge → List ℕ
+targets_from s q None = []
+targets_from s q (Some e) = e.target ∷ named 7 (between s e.behind q)
 
 module _ (s : List ℕ) (p q : ℕ) (l : p ≤ q) (k : q ≤ record_count s) where
-  pub edge_from-targets : named 7 (between s p q) ≡ targets_from s q (edge_from s p q).tag (edge_from s p q).behind
-  edge_from-targets = go (edge_from s p q).tag (edge_from s p q).behind (edge_from-taken s q p l k)
+  pub edge_from-targets : named 7 (between s p q) ≡ targets_from s q (edge_from s p q)
+  edge_from-targets = go (edge_from s p q) (edge_from-taken s q p l k)
     where
-      go : (tag behind : ℕ) → Taken s p q (named 7 (between s p q)) (record { tag = tag; behind = behind })
-          → named 7 (between s p q) ≡ targets_from s q tag behind
-      go zero behind h = h
-      go (suc t) behind h = h.0
+      go : (e : Option NextEdge) → Taken s p q (named 7 (between s p q)) e → named 7 (between s p q) ≡ targets_from s q e
+      go None h = h
+      go (Some e) h = h.0
 
-  pub edge_from-behind : ((edge_from s p q).tag ≡ 0 → ⊥) → (edge_from s p q).behind ≤ q
-  edge_from-behind = go (edge_from s p q).tag (edge_from s p q).behind (edge_from-taken s q p l k)
-    where
-      go : (tag behind : ℕ) → Taken s p q (named 7 (between s p q)) (record { tag = tag; behind = behind }) → (tag ≡ 0 → ⊥) → behind ≤ q
-      go zero behind h some = absurd (some refl)
-      go (suc t) behind h some = h.1
+  pub edge_from-behind : (e : NextEdge) → edge_from s p q ≡ Some e → e.behind ≤ q
+  edge_from-behind e is = (subst (Taken s p q (named 7 (between s p q))) is (edge_from-taken s q p l k)).1

@@ -1,5 +1,5 @@
 -- The walk over lent tables: what one turn does to them, what machine they stand for, and what a caller is promised.
-use Rattle.std.specs.Prelude.{ℕ, zero, suc, ◌+◌, ◌-◌, ◌<◌, ◌≤◌, ◌≡◌, refl, true, false, not, List, [], ◌∷◌, map, reverse, length, get_or, set, take, T, eqb}
+use Rattle.std.specs.Prelude.{ℕ, zero, suc, ◌+◌, ◌-◌, ◌<◌, ◌≤◌, ◌≡◌, refl, true, false, not, Option, Some, None, List, [], ◌∷◌, map, reverse, length, get_or, set, take, T, eqb}
 use Rattle.std.proofs.Common.{ap, ◌∙◌, arith}
 use Rattle.std.proofs.lemmas.List.{length-map}
 use Rattle.rules.specs.Lists.{has, up_from, padded}
@@ -15,6 +15,7 @@ use Rattle.graph.specs.Zeros.{Zeros}
 use Rattle.graph.specs.Between.{between}
 use Rattle.graph.specs.Tails.{TailsLast}
 use Rattle.graph.specs.Blocks.{block_table}
+use Rattle.graph.specs.declared.edges.NextEdge.{NextEdge}
 use Rattle.graph.specs.NextEdge.{edge_from}
 
 -- The blocks done, by index; for each block a tag, 0 before it is entered, and its index and one when it is done; the
@@ -52,17 +53,16 @@ look_from p t = tables t.order t.index t.stack (set t.next (t.depth - 1) p) t.de
 abbrev pub take_edge : List ℕ → ℕ → Tables → Tables
 take_edge places b t = elim (eqb (get_or t.index b 0) 0) [ true ↦ enter_block places b t | false ↦ t ]
 
--- by the edge's tag
-abbrev pub turn_by : List ℕ → ℕ → ℕ → Tables → Tables
-turn_by places zero behind t = finish_top t
-turn_by places (suc b) behind t = take_edge places b (look_from behind t)
+-- by what is found: no edge, or one
+abbrev pub turn_by : List ℕ → Option NextEdge → Tables → Tables
+turn_by places None t = finish_top t
+turn_by places (Some e) t = take_edge places e.target (look_from e.behind t)
 
 -- one turn: the innermost block takes its next edge, or is done
 unfoldable pub turn_on : List ℕ → List ℕ → Tables → Tables
 turn_on s places t =
     let top = t.depth - 1 in
-    let e = edge_from s (get_or t.next top 0) (get_or places (get_or t.stack top 0 + 1) 0) in
-    turn_by places e.tag e.behind t
+    turn_by places (edge_from s (get_or t.next top 0) (get_or places (get_or t.stack top 0 + 1) 0)) t
 
 -- THE MACHINE. A block on the stack, and its edges from place p on
 abbrev pub frame_of : List ℕ → List ℕ → ℕ → ℕ → Frame

@@ -1,66 +1,52 @@
 // The edges of a block, one after the other.
-ghost use Rattle.std.specs.Prelude.{◌≡◌, true, ◌≤◌, ◌<◌, ◌^◌};
-ghost use Rattle.rules.specs.Records.{kind, record_at, record_count, records};
-ghost use Rattle.rules.specs.File.{ordered};
+ghost use Rattle.std.specs.Prelude.{◌≡◌, ◌≤◌, ◌<◌};
+ghost use Rattle.rules.specs.Records.{kind, record_at, record_count};
 ghost use Rattle.graph.specs.Tails.{TailLast, NoTail};
 ghost use Rattle.graph.specs.NextEdge.{edge_from};
 
-use records::in_order::{kind_at, words_at};
+use records::file::File;
+use rules::kinds;
 
-// An edge by its tag, which is one more than its target, and the place behind its record; the tag 0 is no edge.
+// An edge by its target, and the place behind its record.
 #[derive(Clone, Copy)]
 pub struct NextEdge {
-    pub tag: usize,
+    pub target: usize,
     pub behind: usize,
 }
 
-fn wide(x: u32) -> usize
-    ensures { (result ≡ x) × (result < 2 ^ 32) }
-{
-    x as usize
-}
-
 // The first edge from a place on and before place end.
-pub fn next_edge(s: &[u8], from: usize, end: usize) -> NextEdge
-    requires { (from ≤ end) × (end ≤ record_count s.now) × (ordered 0 (records s.now) ≡ true) }
-    ensures { result ≡ edge_from s.now from end }
+pub fn next_edge(file: File<'_>, from: usize, end: usize) -> Option<NextEdge>
+    requires { (from ≤ end) × (end ≤ record_count file.bytes.now) }
+    ensures { result ≡ edge_from file.entry.bytes.now from end }
 {
-    let mut i = from;
-    while i < end {
-        if kind_at(s, i) == 7 {
-            let w = words_at(s, i);
-            let tag = wide(w.second) + 1;
-            let behind = i + 1;
-            return NextEdge { tag, behind };
-        }
-        i += 1;
-    }
-    NextEdge { tag: 0, behind: i }
+    let at = (from..end).find(|&i| file.kind_at(i) == kinds::EDGE)?;
+    Some(NextEdge {
+        target: file.words_at(at).second as usize,
+        behind: at + 1,
+    })
 }
 
 // Where a block's tail of edges, edge arguments and contexts starts, from a place on and before the block's end, or the end. A place
 // that is in the tail is itself the answer, so that whoever asks again behind each edge does not read the tail again.
-pub fn tail_from(s: &[u8], from: usize, end: usize) -> usize
-    requires { (from ≤ end) × (end ≤ record_count s.now) × (ordered 0 (records s.now) ≡ true) × TailLast s.now from end }
-    ensures { (from ≤ result) × (result ≤ end) × NoTail s.now from result × (result < end → 7 ≤ kind (record_at s.now result)) }
+pub fn tail_from(file: File<'_>, from: usize, end: usize) -> usize
+    requires { (from ≤ end) × (end ≤ record_count file.bytes.now) × TailLast file.bytes.now from end }
+    ensures { (from ≤ result) × (result ≤ end) × NoTail file.entry.bytes.now from result × (result < end → 7 ≤ kind (record_at file.entry.bytes.now result)) }
 {
-    if from == end {
-        return end;
-    }
-    if kind_at(s, from) >= 7 {
+    if from < end && file.kind_at(from) >= kinds::EDGE {
         return from;
     }
-    let mut at = end;
-    while kind_at(s, at - 1) >= 7 {
-        at -= 1;
+    for i in (from..end).rev() {
+        if file.kind_at(i) < kinds::EDGE {
+            return i + 1;
+        }
     }
-    at
+    from
 }
 
 // The first edge from a place on and before the block's end, found in the block's tail.
-pub fn next_edge_in_tail(s: &[u8], from: usize, end: usize) -> NextEdge
-    requires { (from ≤ end) × (end ≤ record_count s.now) × (ordered 0 (records s.now) ≡ true) × TailLast s.now from end }
-    ensures { result ≡ edge_from s.now from end }
+pub fn next_edge_in_tail(file: File<'_>, from: usize, end: usize) -> Option<NextEdge>
+    requires { (from ≤ end) × (end ≤ record_count file.bytes.now) × TailLast file.bytes.now from end }
+    ensures { result ≡ edge_from file.entry.bytes.now from end }
 {
-    next_edge(s, tail_from(s, from, end), end)
+    next_edge(file, tail_from(file, from, end), end)
 }

@@ -1,85 +1,73 @@
 // The lists of predecessors, linked through lent tables. A table of blocks has the tag of each list's first entry; a tag is 0
-// for none, and one more than the entry's place.
-ghost use Rattle.std.specs.Prelude.{◌≡◌, true, ◌-◌, ◌≤◌, ◌<◌, length};
-ghost use Rattle.rules.specs.Lists.{foldl};
-ghost use Rattle.rules.specs.Records.{record_count, records};
-ghost use Rattle.rules.specs.File.{named, ordered, function_in};
-ghost use Rattle.graph.specs.Between.{between};
-ghost use Rattle.graph.specs.Tails.{TailLast};
-ghost use Rattle.graph.specs.Links.{links, link_edge, linked, Linkable, LentLinks, Walked};
+// for none, and one more than the entry's place: the definitions `links` and `Chain` read them so, and an Option would take twice the memory,
+// which is fixed (document 01). For that the lists are links in tables, and no Vec.
+ghost use Rattle.std.specs.Prelude.{◌≡◌, ◌<◌, length};
+ghost use Rattle.rules.specs.File.{function_in};
+ghost use Rattle.rules.specs.Graph.{successors};
+ghost use Rattle.graph.specs.Tails.{TailsLast};
+ghost use Rattle.graph.specs.Links.{links, link_edge, link_block, linked, Linkable, LentLinks};
+ghost use Rattle.graph.specs.Walk.{links_of, OnLists};
 
+use crate::blocks::{Blocks, Reachable};
 use crate::edges::{next_edge, next_edge_in_tail};
 
-// One entry more, in front of the list of block t: an edge from block p.
-fn link_edge(
-    first: &mut [usize],
-    from: &mut [usize],
-    next: &mut [usize],
+// The tables of the lists, and how many entries are in use.
+#[derive(Drop)]
+struct Lists<'t> {
+    first: &'t mut [usize],
+    from: &'t mut [usize],
+    next: &'t mut [usize],
     used: usize,
-    p: usize,
-    t: usize,
-) -> usize
-    requires { (t < length first.old) × (used < length from.old) × (used < length next.old) }
-    ensures { links first.new from.new next.new result ≡ link_edge p (links first.old from.old next.old used) t }
-{
-    let tag = used + 1;
-    from[used] = p;
-    next[used] = first[t];
-    first[t] = tag;
-    tag
 }
 
-// The edges of block p, which stand between two places.
-fn link_block(
-    s: &[u8],
-    start: usize,
-    end: usize,
-    first: &mut [usize],
-    from: &mut [usize],
-    next: &mut [usize],
-    used: usize,
-    p: usize,
-) -> usize
-    requires { (start ≤ end) × (end ≤ record_count s.now) × Linkable (named 7 (between s.now start end)) (links first.old from.old next.old used) × (ordered 0 (records s.now) ≡ true) × TailLast s.now start end }
-    ensures { links first.new from.new next.new result ≡ foldl (link_edge p) (links first.old from.old next.old used) (named 7 (between s.now start end)) }
-{
-    let mut count = used;
-    let mut edge = next_edge_in_tail(s, start, end);
-    while edge.tag > 0 {
-        count = link_edge(first, from, next, count, p, edge.tag - 1);
-        edge = next_edge(s, edge.behind, end);
+impl Lists<'_> {
+    // One entry more, in front of the list of block t: an edge from block p.
+    fn link_edge(&mut self, p: usize, t: usize)
+        requires { (t < length self.old.first.now) × (self.old.used < length self.old.from.now) × (self.old.used < length self.old.next.now) }
+        ensures value { links_of self.new ≡ link_edge p (links_of self.old) t }
+        ensures same { OnLists self.old self.new }
+    {
+        self.from[self.used] = p;
+        self.next[self.used] = self.first[t];
+        self.used += 1;
+        self.first[t] = self.used;
     }
-    count
-}
 
-// The index that is reached once so many, from the highest down, are done.
-fn from_top(count: usize, done: usize) -> usize
-    requires { done < count }
-    ensures { (result ≡ count - done - 1) × (result < count) }
-{
-    count - done - 1
+    // The edges of block p.
+    fn link_block(&mut self, blocks: Blocks<'_>, p: usize)
+        requires { (p < blocks.count) × TailsLast blocks.file.bytes.now × Linkable (successors (function_in blocks.file.bytes.now) p) (links_of self.old) }
+        ensures value { links_of self.new ≡ link_block (function_in blocks.entry.file.bytes.now) (links_of self.old) p }
+        ensures same { OnLists self.old self.new }
+    {
+        let body = blocks.body(p);
+        let mut found = next_edge_in_tail(blocks.file, body.start, body.end);
+        // From edge to edge: each search begins behind the edge before it, which no range does.
+        while let Some(edge) = found {
+            self.link_edge(p, edge.target);
+            found = next_edge(blocks.file, edge.behind, body.end);
+        }
+    }
 }
 
 // The lists of the predecessors of all blocks, once an edge, ascending by index. Answers how many entries are in use. The
 // blocks go from the highest index down, and each entry in front of those before it.
 pub fn link_predecessors(
-    s: &[u8],
-    places: &[usize],
-    order: &[usize],
-    count: usize,
+    reachable: Reachable<'_>,
     first: &mut [usize],
     from: &mut [usize],
     next: &mut [usize],
 ) -> usize
-    requires { Walked s.now places.now order.now count × LentLinks (function_in s.now) (links first.old from.old next.old 0) }
-    ensures { links first.new from.new next.new result ≡ linked (function_in s.now) (links first.old from.old next.old 0) }
+    requires { LentLinks (function_in reachable.blocks.file.bytes.now) (links first.old from.old next.old 0) }
+    ensures { links first.new from.new next.new result ≡ linked (function_in reachable.entry.blocks.file.bytes.now) (links first.old from.old next.old 0) }
 {
-    let mut used: usize = 0;
-    let mut done: usize = 0;
-    while done < count {
-        let p = order[from_top(count, done)];
-        used = link_block(s, places[p] + 1, places[p + 1], first, from, next, used, p);
-        done += 1;
+    let mut lists = Lists {
+        first,
+        from,
+        next,
+        used: 0,
+    };
+    for i in (0..reachable.order.len()).rev() {
+        lists.link_block(reachable.blocks, reachable.order[i]);
     }
-    used
+    lists.used
 }

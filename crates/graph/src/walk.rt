@@ -1,108 +1,95 @@
 // The post-order walk from block 0, with an explicit stack.
-ghost use Rattle.std.specs.Prelude.{◌≡◌, List, ℕ, ◌+◌, ◌-◌, ◌≤◌, ◌<◌, length, get_or};
+ghost use Rattle.std.specs.Prelude.{◌≡◌, ◌+◌, ◌-◌, ◌≤◌, ◌<◌, length, get_or};
 ghost use Rattle.rules.specs.File.{function_in};
 ghost use Rattle.graph.specs.Tables.{tables, finish_top, enter_block, turn_on, Ready, Lent, Numbered};
+ghost use Rattle.graph.specs.Walk.{tables_of, OnTables};
 
+use crate::blocks::Blocks;
 use crate::edges::next_edge_in_tail;
 
-// How many blocks are open, and how many are done.
-#[derive(Clone, Copy)]
-struct At {
+// The walk's tables, how many blocks are open, and how many are done. The stack is fixed memory (document 01), and so has its depth beside it.
+#[derive(Drop)]
+struct Walk<'t> {
+    order: &'t mut [usize],
+    index: &'t mut [usize],
+    stack: &'t mut [usize],
+    next: &'t mut [usize],
     depth: usize,
     count: usize,
 }
 
-// The innermost block gets the next index.
-fn finish(
-    order: &mut [usize],
-    index: &mut [usize],
-    stack: &mut [usize],
-    next: &mut [usize],
-    at: At,
-) -> At
-    requires { (0 < at.depth) × (at.depth ≤ length stack.old) × (at.depth ≤ length next.old) × (at.count < length order.old) × (get_or stack.old (at.depth - 1) 0 < length index.old) }
-    ensures { tables order.new index.new stack.new next.new result.depth result.count ≡ finish_top (tables order.old index.old stack.old next.old at.depth at.count) }
-{
-    let top = at.depth - 1;
-    let count = at.count;
-    let tag = count + 1;
-    let b = stack[top];
-    order[count] = b;
-    index[b] = tag;
-    stack[top] = 0;
-    next[top] = 0;
-    At {
-        depth: top,
-        count: tag,
+impl Walk<'_> {
+    // The innermost block gets the next index.
+    fn finish(&mut self)
+        requires { (0 < self.old.depth) × (self.old.depth ≤ length self.old.stack.now) × (self.old.depth ≤ length self.old.next.now) × (self.old.count < length self.old.order.now) × (get_or self.old.stack.now (self.old.depth - 1) 0 < length self.old.index.now) }
+        ensures value { tables_of self.new ≡ finish_top (tables_of self.old) }
+        ensures same { OnTables self.old self.new }
+    {
+        let top = self.depth - 1;
+        let b = self.stack[top];
+        self.order[self.count] = b;
+        self.count += 1;
+        self.index[b] = self.count;
+        self.stack[top] = 0;
+        self.next[top] = 0;
+        self.depth = top;
     }
-}
 
-// Block b goes on top, with all its edges to take.
-fn enter(
-    places: &[usize],
-    index: &mut [usize],
-    stack: &mut [usize],
-    next: &mut [usize],
-    b: usize,
-    at: At,
-) -> At
-    requires { (b + 1 < length places.now) × (get_or places.now b 0 + 1 ≤ get_or places.now (b + 1) 0) × (b < length index.old) × (at.depth < length stack.old) × (at.depth < length next.old) }
-    ensures { (order : List ℕ) → tables order index.new stack.new next.new result.depth result.count ≡ enter_block places.now b (tables order index.old stack.old next.old at.depth at.count) }
-{
-    let depth = at.depth;
-    index[b] = 1;
-    stack[depth] = b;
-    next[depth] = places[b] + 1;
-    At {
-        depth: depth + 1,
-        count: at.count,
+    // Block b goes on top, with all its edges to take.
+    fn enter(&mut self, blocks: Blocks<'_>, b: usize)
+        requires { (b < blocks.count) × (b < length self.old.index.now) × (self.old.depth < length self.old.stack.now) × (self.old.depth < length self.old.next.now) }
+        ensures value { tables_of self.new ≡ enter_block blocks.entry.places.now b (tables_of self.old) }
+        ensures same { OnTables self.old self.new }
+    {
+        self.index[b] = 1;
+        self.stack[self.depth] = b;
+        self.next[self.depth] = blocks.body(b).start;
+        self.depth += 1;
     }
-}
 
-// One turn of the walk: the innermost block takes its next edge, or is done.
-fn turn(
-    s: &[u8],
-    places: &[usize],
-    order: &mut [usize],
-    index: &mut [usize],
-    stack: &mut [usize],
-    next: &mut [usize],
-    at: At,
-) -> At
-    requires { (0 < at.depth) × Ready s.now places.now (tables order.old index.old stack.old next.old at.depth at.count) }
-    ensures { tables order.new index.new stack.new next.new result.depth result.count ≡ turn_on s.now places.now (tables order.old index.old stack.old next.old at.depth at.count) }
-{
-    let top = at.depth - 1;
-    let b = stack[top];
-    let edge = next_edge_in_tail(s, next[top], places[b + 1]);
-    let tag = edge.tag;
-    if tag == 0 {
-        return finish(order, index, stack, next, at);
+    // One turn of the walk: the innermost block takes its next edge, or is done.
+    fn turn(&mut self, blocks: Blocks<'_>)
+        requires { (0 < self.old.depth) × Ready blocks.file.bytes.now blocks.places.now (tables_of self.old) }
+        ensures value { tables_of self.new ≡ turn_on blocks.entry.file.bytes.now blocks.entry.places.now (tables_of self.old) }
+        ensures same { OnTables self.old self.new }
+    {
+        let top = self.depth - 1;
+        let end = blocks.body(self.stack[top]).end;
+        let Some(edge) = next_edge_in_tail(blocks.file, self.next[top], end) else {
+            self.finish();
+            return;
+        };
+        self.next[top] = edge.behind;
+        if self.index[edge.target] == 0 {
+            self.enter(blocks, edge.target);
+        }
     }
-    next[top] = edge.behind;
-    let target = tag - 1;
-    if index[target] != 0 {
-        return at;
-    }
-    enter(places, index, stack, next, target, at)
 }
 
 // The post-order walk from block 0: the reachable blocks by ascending index, and for each block one more than its index,
 // 0 where it is not reachable. Answers how many are reachable. The stack is left as it was lent.
 pub fn post_order(
-    s: &[u8],
-    places: &[usize],
+    blocks: Blocks<'_>,
     order: &mut [usize],
     index: &mut [usize],
     stack: &mut [usize],
     next: &mut [usize],
 ) -> usize
-    requires { Lent s.now places.now (tables order.old index.old stack.old next.old 0 0) }
-    ensures { Numbered (function_in s.now) (tables order.old index.old stack.old next.old 0 0) (tables order.new index.new stack.new next.new 0 result) }
+    requires { Lent blocks.file.bytes.now blocks.places.now (tables order.old index.old stack.old next.old 0 0) }
+    ensures { Numbered (function_in blocks.entry.file.bytes.now) (tables order.old index.old stack.old next.old 0 0) (tables order.new index.new stack.new next.new 0 result) }
 {
-    let mut at = enter(places, index, stack, next, 0, At { depth: 0, count: 0 });
-    while at.depth > 0 {
-        at = turn(s, places, order, index, stack, next, at);
+    let mut walk = Walk {
+        order,
+        index,
+        stack,
+        next,
+        depth: 0,
+        count: 0,
+    };
+    walk.enter(blocks, 0);
+    // A `while`: how many turns it takes is known of no count beforehand.
+    while walk.depth > 0 {
+        walk.turn(blocks);
     }
-    at.count
+    walk.count
 }

@@ -1,21 +1,18 @@
 -- Laws of the table of holders: every step keeps its length, and reaches only entries that it has.
-use Rattle.std.specs.Prelude.{ℕ, zero, suc, ◌/◌, ◌≤◌, ◌<◌, ◌≡◌, refl, Bool, true, false, cond, List, length, set, get_or}
+use Rattle.std.specs.Prelude.{ℕ, zero, suc, ◌/◌, ◌%◌, ◌≤◌, ◌<◌, ◌≡◌, refl, true, false, cond, List, length, get_or, eqb}
 use Rattle.std.proofs.Common.{◌∙◌, arith, length-set}
 use Rattle.rules.specs.File.{function_in}
 use Rattle.rules.specs.Graph.{size_of}
 use Rattle.holders.specs.declared.Holder.{Holder}
 use Rattle.holders.specs.declared.Change.{Change}
+use Rattle.holders.specs.declared.Change.TheVariants as change
 use Rattle.holders.specs.Table.{nobody, taken_by, given_back, changed, Reaches, change_of, change_at, holders_after, Replayable}
 
 -- a step keeps the table's length,
 pub length-changed : (c : Change) (table : List Holder) → length (changed c table) ≡ length table
-length-changed c table =
-    go c.takes c.gives (taken_by (get_or table c.at nobody) c.owner c.size) (given_back (get_or table c.at nobody))
-  where
-    go : (t u : Bool) (x y : Holder) → length (cond t (set table c.at x) (cond u (set table c.at y) table)) ≡ length table
-    go true u x y = length-set table c.at x
-    go false true x y = length-set table c.at y
-    go false false x y = refl
+length-changed (change.Takes at owner size) table = length-set table at (taken_by (get_or table at nobody) owner size)
+length-changed (change.Gives at) table = length-set table at (given_back (get_or table at nobody))
+length-changed change.Nothing table = refl
 
 -- and so do all
 pub length-after : (s steps places : List ℕ) (i : ℕ) (table : List Holder) → length (holders_after s steps places i table) ≡ length table
@@ -25,8 +22,9 @@ length-after s steps places (suc i) table =
 
 -- a place that is not none names an entry
 pub place-reaches : (step place size : ℕ) (table : List Holder) → place ≤ length table → Reaches (change_of step place size) table
-place-reaches step zero size table within h = absurd h
-place-reaches step (suc slot) size table within h = omega (arith, within)
+place-reaches step zero size table within = tt
+place-reaches step (suc slot) size table within =
+    elim (eqb (step % 2) 0) as (λ b. Reaches (cond b (change.Takes slot (step / 2) size) (change.Gives slot)) table) [ true ↦ omega arith | false ↦ omega arith ]
 
 -- STEP i reaches an entry of the table before it.
 pub step-reaches :

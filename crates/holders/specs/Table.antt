@@ -1,11 +1,12 @@
 -- THE TABLE OF SLOT HOLDERS: entry k says of slot k its size, the value that was given it last, and whether that value holds
 -- it still. What taking, giving, one step and all steps make of it.
-use Rattle.std.specs.Prelude.{ℕ, zero, suc, ◌-◌, ◌/◌, ◌%◌, ◌<◌, ◌≤◌, ◌≡◌, true, false, cond, not, ◌||◌, ◌&&◌, List, length, set, get_or, T, eqb}
+use Rattle.std.specs.Prelude.{ℕ, zero, suc, ◌/◌, ◌%◌, ◌<◌, ◌≤◌, ◌≡◌, true, false, cond, List, length, set, get_or, eqb}
 use Rattle.rules.specs.Records.{records}
 use Rattle.rules.specs.File.{ordered, function_in}
 use Rattle.rules.specs.Graph.{size_of}
 use Rattle.holders.specs.declared.Holder.{Holder}
 use Rattle.holders.specs.declared.Change.{Change}
+use Rattle.holders.specs.declared.Change.TheVariants as change
 
 -- the entry of a slot that is not made
 abbrev pub nobody : Holder
@@ -25,25 +26,21 @@ given_back h = record { size = h.size; owner = h.owner; held = false }
 
 -- ONE STEP: a value takes the slot, or the slot is given back, or nothing changes.
 abbrev pub changed : Change → List Holder → List Holder
-changed c table =
-    cond c.takes (set table c.at (taken_by (get_or table c.at nobody) c.owner c.size))
-    (cond c.gives (set table c.at (given_back (get_or table c.at nobody))) table)
+changed (change.Takes at owner size) table = set table at (taken_by (get_or table at nobody) owner size)
+changed (change.Gives at) table = set table at (given_back (get_or table at nobody))
+changed change.Nothing table = table
 
 -- the slot that a step speaks of has an entry
 abbrev pub Reaches : Change → List Holder → Type 0
-Reaches c table = T (c.takes || c.gives) → c.at < length table
+Reaches (change.Takes at owner size) table = at < length table
+Reaches (change.Gives at) table = at < length table
+Reaches change.Nothing table = Unit
 
 -- What a step does: in an even one its value takes a slot, in an odd one it gives the slot back. Its place is one more than the
 -- slot's number, 0 where nothing changes.
 abbrev pub change_of : ℕ → ℕ → ℕ → Change
-change_of step place size =
-    record {
-      takes = not (eqb place 0) && eqb (step % 2) 0;
-      gives = not (eqb place 0) && not (eqb (step % 2) 0);
-      at = place - 1;
-      owner = step / 2;
-      size = size;
-    }
+change_of step zero size = change.Nothing
+change_of step (suc slot) size = cond (eqb (step % 2) 0) (change.Takes slot (step / 2) size) (change.Gives slot)
 
 module _ (s steps places : List ℕ) where
   abbrev pub change_at : ℕ → Change

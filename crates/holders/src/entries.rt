@@ -8,19 +8,15 @@ use crate::Holder;
 fn size_taken(h: Holder, size: u32) -> u32
     ensures { result ≡ size_taken h size }
 {
-    if h.size == 0 {
-        return size;
-    }
-    h.size
+    if h.size == 0 { size } else { h.size }
 }
 
 // A value takes a slot.
 pub fn taken(h: Holder, value: u32, size: u32) -> Holder
     ensures { result ≡ taken_by h value size }
 {
-    let made = size_taken(h, size);
     Holder {
-        size: made,
+        size: size_taken(h, size),
         owner: value,
         held: true,
     }
@@ -30,11 +26,7 @@ pub fn taken(h: Holder, value: u32, size: u32) -> Holder
 pub fn given(h: Holder) -> Holder
     ensures { result ≡ given_back h }
 {
-    Holder {
-        size: h.size,
-        owner: h.owner,
-        held: false,
-    }
+    Holder { held: false, ..h }
 }
 
 // A value takes the slot at a place of the lent table.
@@ -42,8 +34,7 @@ pub fn take(table: &mut [Holder], at: usize, value: u32, size: u32)
     requires { at < length table.old }
     ensures { table.new ≡ set table.old at (taken_by (get_or table.old at nobody) value size) }
 {
-    let h = taken(table[at], value, size);
-    table[at] = h;
+    table[at] = taken(table[at], value, size);
 }
 
 // The slot at a place of the lent table is given back.
@@ -51,6 +42,5 @@ pub fn give(table: &mut [Holder], at: usize)
     requires { at < length table.old }
     ensures { table.new ≡ set table.old at (given_back (get_or table.old at nobody)) }
 {
-    let h = given(table[at]);
-    table[at] = h;
+    table[at] = given(table[at]);
 }

@@ -8,20 +8,18 @@ pub mod entries;
 pub mod table;
 
 // Who holds a slot: the slot's size, 0 for one that is not made yet; the value that was given it last; and whether that
-// value holds it still.
-#[derive(Clone, Copy)]
+// value holds it still. Document 01 names this form: a slice of structs with size, owner and held flag.
+#[derive(Clone, Copy, Debug, Default, PartialEq, Eq)]
 pub struct Holder {
     pub size: u32,
     pub owner: u32,
     pub held: bool,
 }
 
-// What a step does to the holders: a value of a size takes the slot, or the slot is given back, or neither.
-#[derive(Clone, Copy)]
-pub struct Change {
-    pub takes: bool,
-    pub gives: bool,
-    pub at: usize,
-    pub owner: u32,
-    pub size: u32,
+// What a step does to the holders: a value of a size takes the slot at a place, or that slot is given back, or neither.
+#[derive(Clone, Copy, Debug, PartialEq, Eq)]
+pub enum Change {
+    Takes { at: usize, owner: u32, size: u32 },
+    Gives { at: usize },
+    Nothing,
 }

@@ -13,7 +13,7 @@ use Rattle.listing.specs.Across.{section_at}
 use Rattle.listing.specs.Stepping.{heads_from, BlockRecords, instruction-at}
 use Rattle.writing_edges.specs.declared.edges.EdgePart.TheVariants as edge
 use Rattle.writing.specs.declared.parts.Part.TheVariants as part
-use Rattle.writing.specs.Next.{next_place}
+use Rattle.graph.specs.Next.{next_place}
 use Rattle.writing.specs.Places.{from_to}
 use Rattle.writing_edges.specs.ByPlace.{on_kind}
 use Rattle.writing_instructions.specs.Runs.{parts_run, edges_run, instruction_run}

@@ -25,7 +25,7 @@ use Rattle.listing.specs.Stepping.{heads_from}
 use Rattle.writing_edges.specs.declared.edges.EdgePart.TheVariants as edge
 use Rattle.writing.specs.declared.parts.Part.TheVariants as part
 use Rattle.writing.specs.Parts.{slot_in, items_records}
-use Rattle.writing.specs.Next.{next_place, next_place-bounds}
+use Rattle.graph.specs.Next.{next_place, next_place-bounds}
 use Rattle.writing.specs.Places.{from_to, from_to-same}
 use Rattle.writing_edges.specs.Zips.{concat_map-concat_zip}
 use Rattle.writing_edges.specs.ByPlace.{on_kind, section_from, beside_at, sectioned, sections-by-place}

@@ -67,6 +67,19 @@ module _ (sizes : List ℕ) (n : ℕ) (l : n ≤ length sizes) where
       let all : n ≡ n - 0 = omega arith in
       first-sizes record'.Slot sizes n l ∙ ap (λ (k : ℕ). concat_map (slot_at sizes) (up_from 0 k)) all
 
+  -- as a loop over the first ones puts them
+  pub new-values-mapped : map (λ size. record'.Value size false) (take n sizes) ≡ from_to (new_value_at sizes) 0 n
+  unfolding from_to
+  new-values-mapped =
+      let all : n ≡ n - 0 = omega arith in
+      first-sizes (λ size. record'.Value size false) sizes n l ∙ ap (λ (k : ℕ). concat_map (new_value_at sizes) (up_from 0 k)) all
+
+  pub slots-mapped : map record'.Slot (take n sizes) ≡ from_to (slot_at sizes) 0 n
+  unfolding from_to
+  slots-mapped =
+      let all : n ≡ n - 0 = omega arith in
+      first-sizes record'.Slot sizes n l ∙ ap (λ (k : ℕ). concat_map (slot_at sizes) (up_from 0 k)) all
+
 -- THE FILE'S VALUES are its first records.
 pub values-copied :
     (s : List ℕ) → T (ordered 0 (records s)) → (n : ℕ) → n ≡ length (function_in s).values

@@ -16,7 +16,7 @@ use Rattle.listing.specs.Parted.{run_end, run-parts, kinds-none}
 use Rattle.listing.specs.Stepping.{BlockRecords}
 use Rattle.writing.specs.declared.parts.Part.{Part}
 use Rattle.writing.specs.declared.parts.Part.TheVariants as part
-use Rattle.writing.specs.Next.{next_place, next_place-bounds, next_place-found}
+use Rattle.graph.specs.Next.{next_place, next_place-bounds, next_place-found}
 use Rattle.writing.specs.Parts.{part_at}
 use Rattle.writing.specs.Places.{from_to, from_to-none, from_to-more, passed-before, passed-behind}
 use Rattle.writing.specs.Steps.{Only, from_first, next-place}

@@ -1,144 +1,93 @@
 // One block: its record, parameters and their stores, its instructions, and the landings behind it; or the block copied.
-ghost use Rattle.std.specs.Prelude.{◌≡◌, true, ◌+◌, ◌*◌, ◌<◌, ◌≤◌, length};
+ghost use Rattle.std.specs.Prelude.{◌≡◌, ◌+◌, ◌*◌, ◌<◌, ◌≤◌, length};
 ghost use Rattle.rules.specs.Limits.{row_words};
-ghost use Rattle.rules.specs.Records.{record_count, records};
-ghost use Rattle.rules.specs.File.{ordered};
+ghost use Rattle.rules.specs.Records.{record_count};
 ghost use Rattle.graph.specs.Tails.{TailLast};
-ghost use Rattle.rows.specs.Rows.{rows, row_values};
+ghost use Rattle.rows.specs.Rows.{rows};
 ghost use Rattle.listing.specs.Stepping.{BlockRecords};
-ghost use Rattle.writing.specs.Parts.{Readable};
 ghost use Rattle.writing.specs.Places.{from_to};
-ghost use Rattle.writing.specs.Wrote.{room, Wrote};
+ghost use Rattle.writing.specs.Put.{Fits, Put};
 ghost use Rattle.layout.specs.BlockRuns.{number_at, instruction_part_at, landing_part_at, head_run, block_run, copy_at};
 ghost use Rattle.layout.specs.Stepped.{InstructionsFrom};
 
 use graph::edges::tail_from;
+use graph::places::next_place;
+use records::file::File;
+use rules::kinds;
 use writing::parts::Part;
-use writing::put::put_copy;
-use writing::run::{next_place, put_parts};
+use writing::plan::Plan;
+use writing::put::Output;
+use writing::run::put_parts;
 use writing_edges::edges::{EdgePart, put_edges};
+use writing_instructions::entries::Lists;
 use writing_instructions::instructions::{instruction_runs, put_instruction};
 
 // The instructions from a place on and before place end, the first one first; the number of the first one is given.
 fn put_instructions(
-    s: &[u8],
-    numbers: &[u32],
-    slots: &[u32],
-    lists: &[u64],
-    values: usize,
+    plan: Plan<'_>,
+    lists: Lists<'_>,
     first: usize,
     from: usize,
     end: usize,
-    out: &mut [u8],
-) -> usize
-    requires { Readable s.now numbers.now × (from ≤ end) × (end ≤ record_count s.now) × (row_words * number_at s.now end ≤ length lists.now) × (values ≤ row_values) × (first ≡ number_at s.now from) × (room (from_to (instruction_part_at s.now numbers.now slots.now values (rows lists.now) end) from end) ≤ length out.old) × InstructionsFrom s.now from end }
-    ensures { Wrote out.old (from_to (instruction_part_at s.now numbers.now slots.now values (rows lists.now) end) from end) result out.new }
+    out: &mut Output<'_>,
+)
+    requires { (from ≤ end) × (end ≤ record_count plan.file.bytes.now) × (row_words * number_at plan.file.bytes.now end ≤ length lists.rows.now) × (first ≡ number_at plan.file.bytes.now from) × Fits out.old (from_to (instruction_part_at plan.file.bytes.now plan.numbers.now plan.slots.now lists.values (rows lists.rows.now) end) from end) × InstructionsFrom plan.file.bytes.now from end }
+    ensures { Put out.old (from_to (instruction_part_at plan.entry.file.bytes.now plan.entry.numbers.now plan.entry.slots.now lists.entry.values (rows lists.entry.rows.now) end) from end) out.new }
 {
-    let mut at = 0;
+    // Counted beside the loop: `enumerate` would count the records, and not the instructions.
     let mut number = first;
-    let mut p = from;
-    while p < end {
-        let runs = instruction_runs(s, p, end);
-        let next = runs.end;
-        let n = put_instruction(
-            s,
-            numbers,
-            slots,
-            lists,
-            values,
-            number,
-            runs,
-            &mut out[at..],
-        );
-        at += n;
-        number += 1;
-        p = next;
+    for p in from..end {
+        if plan.file.kind_at(p) == kinds::INSTRUCTION {
+            let runs = instruction_runs(plan.file, p, end);
+            put_instruction(plan, lists, number, runs, out);
+            number += 1;
+        }
     }
-    at
 }
 
 // The landings of a block whose first instruction stands at place from: those of its edges, which stand in its tail.
-fn put_landings(
-    s: &[u8],
-    numbers: &[u32],
-    slots: &[u32],
-    from: usize,
-    end: usize,
-    out: &mut [u8],
-) -> usize
-    requires { Readable s.now numbers.now × (from ≤ end) × (end ≤ record_count s.now) × (room (from_to (landing_part_at s.now numbers.now slots.now end) from end) ≤ length out.old) × InstructionsFrom s.now from end × TailLast s.now from end }
-    ensures { Wrote out.old (from_to (landing_part_at s.now numbers.now slots.now end) from end) result out.new }
+fn put_landings(plan: Plan<'_>, from: usize, end: usize, out: &mut Output<'_>)
+    requires { (from ≤ end) × (end ≤ record_count plan.file.bytes.now) × Fits out.old (from_to (landing_part_at plan.file.bytes.now plan.numbers.now plan.slots.now end) from end) × InstructionsFrom plan.file.bytes.now from end × TailLast plan.file.bytes.now from end }
+    ensures { Put out.old (from_to (landing_part_at plan.entry.file.bytes.now plan.entry.numbers.now plan.entry.slots.now end) from end) out.new }
 {
-    let tail = tail_from(s, from, end);
-    put_edges(s, numbers, slots, EdgePart::Landing, tail, end, out)
+    let tail = tail_from(plan.file, from, end);
+    put_edges(plan, EdgePart::Landing, tail, end, out);
 }
 
 // The record of the block at place p, its parameters, and their stores.
-fn put_head(s: &[u8], numbers: &[u32], slots: &[u32], p: usize, end: usize, out: &mut [u8]) -> usize
-    requires { Readable s.now numbers.now × (p < end) × (end ≤ record_count s.now) × (room (head_run s.now numbers.now slots.now p end) ≤ length out.old) }
-    ensures { Wrote out.old (head_run s.now numbers.now slots.now p end) result out.new }
+fn put_head(plan: Plan<'_>, p: usize, end: usize, out: &mut Output<'_>)
+    requires { (p < end) × (end ≤ record_count plan.file.bytes.now) × Fits out.old (head_run plan.file.bytes.now plan.numbers.now plan.slots.now p end) }
+    ensures { Put out.old (head_run plan.entry.file.bytes.now plan.entry.numbers.now plan.entry.slots.now p end) out.new }
 {
-    let from = p + 1;
-    let a = put_copy(s, p, out);
-    let b = put_parts(
-        s,
-        numbers,
-        slots,
-        3,
-        Part::Parameter,
-        from,
-        end,
-        &mut out[a..],
-    );
-    let ab = a + b;
-    let c = put_parts(s, numbers, slots, 3, Part::Store, from, end, &mut out[ab..]);
-    ab + c
+    out.put_copy(plan.file, p);
+    put_parts(plan, kinds::PARAMETER, Part::Parameter, p + 1, end, out);
+    put_parts(plan, kinds::PARAMETER, Part::Store, p + 1, end, out);
 }
 
 // The block at place p, whose records end before place end, with its landings; the number of its first instruction is given.
 pub fn put_block(
-    s: &[u8],
-    numbers: &[u32],
-    slots: &[u32],
-    lists: &[u64],
-    values: usize,
+    plan: Plan<'_>,
+    lists: Lists<'_>,
     first: usize,
     p: usize,
     end: usize,
-    out: &mut [u8],
-) -> usize
-    requires { Readable s.now numbers.now × (p < end) × (end ≤ record_count s.now) × (row_words * number_at s.now end ≤ length lists.now) × (values ≤ row_values) × (first ≡ number_at s.now (p + 1)) × (room (block_run s.now numbers.now slots.now values (rows lists.now) p end) ≤ length out.old) × BlockRecords s.now (p + 1) end × TailLast s.now (p + 1) end }
-    ensures { Wrote out.old (block_run s.now numbers.now slots.now values (rows lists.now) p end) result out.new }
+    out: &mut Output<'_>,
+)
+    requires { (p < end) × (end ≤ record_count plan.file.bytes.now) × (row_words * number_at plan.file.bytes.now end ≤ length lists.rows.now) × (first ≡ number_at plan.file.bytes.now (p + 1)) × Fits out.old (block_run plan.file.bytes.now plan.numbers.now plan.slots.now lists.values (rows lists.rows.now) p end) × BlockRecords plan.file.bytes.now (p + 1) end × TailLast plan.file.bytes.now (p + 1) end }
+    ensures { Put out.old (block_run plan.entry.file.bytes.now plan.entry.numbers.now plan.entry.slots.now lists.entry.values (rows lists.entry.rows.now) p end) out.new }
 {
-    let front = next_place(s, 4, p + 1, end);
-    let a = put_head(s, numbers, slots, p, front, out);
-    let b = put_instructions(
-        s,
-        numbers,
-        slots,
-        lists,
-        values,
-        first,
-        front,
-        end,
-        &mut out[a..],
-    );
-    let ab = a + b;
-    let c = put_landings(s, numbers, slots, front, end, &mut out[ab..]);
-    ab + c
+    let front = next_place(plan.file, kinds::INSTRUCTION, p + 1, end);
+    put_head(plan, p, front, out);
+    put_instructions(plan, lists, first, front, end, out);
+    put_landings(plan, front, end, out);
 }
 
 // The records from a place on and before place end, as they are.
-pub fn copy_records(s: &[u8], from: usize, end: usize, out: &mut [u8]) -> usize
-    requires { (from ≤ end) × (end ≤ record_count s.now) × (room (from_to (copy_at s.now) from end) ≤ length out.old) × (ordered 0 (records s.now) ≡ true) }
-    ensures { Wrote out.old (from_to (copy_at s.now) from end) result out.new }
+pub fn copy_records(file: File<'_>, from: usize, end: usize, out: &mut Output<'_>)
+    requires { (from ≤ end) × (end ≤ record_count file.bytes.now) × Fits out.old (from_to (copy_at file.bytes.now) from end) }
+    ensures { Put out.old (from_to (copy_at file.entry.bytes.now) from end) out.new }
 {
-    let mut at = 0;
-    let mut i = from;
-    while i < end {
-        let n = put_copy(s, i, &mut out[at..]);
-        at += n;
-        i += 1;
+    for i in from..end {
+        out.put_copy(file, i);
     }
-    at
 }

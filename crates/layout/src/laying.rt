@@ -1,71 +1,59 @@
 // The blocks of the file, one behind the other: each reachable one with its landings behind it, another as it is.
 ghost use Rattle.std.specs.Prelude.{◌≡◌, ◌<◌, ◌≤◌, length};
-ghost use Rattle.rules.specs.File.{function_in};
 ghost use Rattle.rows.specs.Rows.{rows};
-ghost use Rattle.listing.specs.Firsts.{Firsts};
 ghost use Rattle.writing.specs.Places.{from_to};
+ghost use Rattle.writing.specs.Put.{Fits, Put};
 ghost use Rattle.writing.specs.Wrote.{room, Wrote};
 ghost use Rattle.layout.specs.Laid.{BlockTables, block_part_at};
 
 use crate::blocks::{copy_records, put_block};
+use listing::indexed::Numbered;
+use writing::plan::Plan;
+use writing::put::Output;
+use writing_instructions::entries::Lists;
+
+// A function's blocks, its plan, and the lists of its instructions.
+#[derive(Clone, Copy)]
+pub struct Laying<'a> {
+    pub numbered: Numbered<'a>,
+    pub plan: Plan<'a>,
+    pub lists: Lists<'a>,
+    ghost same: { plan.file.bytes.now ≡ numbered.indexed.blocks.file.bytes.now },
+    ghost tables: { BlockTables plan.file.bytes.now numbered.indexed.blocks.places.now numbered.indexed.index.now plan.numbers.now lists.rows.now lists.values },
+}
 
 // Block b, by its index: by its plan if it has one, or as it is.
-fn put_laid(
-    s: &[u8],
-    places: &[usize],
-    index: &[usize],
-    firsts: &[usize],
-    numbers: &[u32],
-    slots: &[u32],
-    lists: &[u64],
-    values: usize,
-    b: usize,
-    out: &mut [u8],
-) -> usize
-    requires { BlockTables s.now places.now index.now numbers.now lists.now values × Firsts s.now firsts.now × (b < length (function_in s.now).blocks) × (room (block_part_at s.now places.now numbers.now slots.now values (rows lists.now) b) ≤ length out.old) }
-    ensures { Wrote out.old (block_part_at s.now places.now numbers.now slots.now values (rows lists.now) b) result out.new }
+fn lay_block(laying: Laying<'_>, b: usize, out: &mut Output<'_>)
+    requires { (b < laying.numbered.indexed.blocks.count) × Fits out.old (block_part_at laying.plan.file.bytes.now laying.numbered.indexed.blocks.places.now laying.plan.numbers.now laying.plan.slots.now laying.lists.values (rows laying.lists.rows.now) b) }
+    ensures { Put out.old (block_part_at laying.entry.plan.file.bytes.now laying.entry.numbered.indexed.blocks.places.now laying.entry.plan.numbers.now laying.entry.plan.slots.now laying.entry.lists.values (rows laying.entry.lists.rows.now) b) out.new }
 {
-    let p = places[b];
-    let end = places[b + 1];
-    if index[b] == 0 {
-        return copy_records(s, p, end, out);
+    let indexed = laying.numbered.indexed;
+    let p = indexed.blocks.place(b);
+    let end = indexed.blocks.body(b).end;
+    if indexed.index[b] == 0 {
+        copy_records(laying.plan.file, p, end, out);
+    } else {
+        let first = laying.numbered.firsts[b];
+        put_block(laying.plan, laying.lists, first, p, end, out);
     }
-    put_block(s, numbers, slots, lists, values, firsts[b], p, end, out)
+}
+
+// The writer of block b: it is lent the output from the current record onward, fills its front, and answers how many bytes that takes.
+fn put_laid(laying: Laying<'_>, b: usize, rest: &mut [u8]) -> usize
+    requires { (b < laying.numbered.indexed.blocks.count) × (room (block_part_at laying.plan.file.bytes.now laying.numbered.indexed.blocks.places.now laying.plan.numbers.now laying.plan.slots.now laying.lists.values (rows laying.lists.rows.now) b) ≤ length rest.old) }
+    ensures { Wrote rest.old (block_part_at laying.entry.plan.file.bytes.now laying.entry.numbered.indexed.blocks.places.now laying.entry.plan.numbers.now laying.entry.plan.slots.now laying.entry.lists.values (rows laying.entry.lists.rows.now) b) result rest.new }
+{
+    let mut out = Output { bytes: rest, at: 0 };
+    lay_block(laying, b, &mut out);
+    out.at
 }
 
 // All blocks, in file order.
-pub fn put_blocks(
-    s: &[u8],
-    places: &[usize],
-    blocks: usize,
-    index: &[usize],
-    firsts: &[usize],
-    numbers: &[u32],
-    slots: &[u32],
-    lists: &[u64],
-    values: usize,
-    out: &mut [u8],
-) -> usize
-    requires { BlockTables s.now places.now index.now numbers.now lists.now values × Firsts s.now firsts.now × (blocks ≡ length (function_in s.now).blocks) × (room (from_to (block_part_at s.now places.now numbers.now slots.now values (rows lists.now)) 0 blocks) ≤ length out.old) }
-    ensures { Wrote out.old (from_to (block_part_at s.now places.now numbers.now slots.now values (rows lists.now)) 0 blocks) result out.new }
+pub fn put_blocks(laying: Laying<'_>, out: &mut Output<'_>)
+    requires { Fits out.old (from_to (block_part_at laying.plan.file.bytes.now laying.numbered.indexed.blocks.places.now laying.plan.numbers.now laying.plan.slots.now laying.lists.values (rows laying.lists.rows.now)) 0 laying.numbered.indexed.blocks.count) }
+    ensures { Put out.old (from_to (block_part_at laying.entry.plan.file.bytes.now laying.entry.numbered.indexed.blocks.places.now laying.entry.plan.numbers.now laying.entry.plan.slots.now laying.entry.lists.values (rows laying.entry.lists.rows.now)) 0 laying.entry.numbered.indexed.blocks.count) out.new }
 {
-    let mut at = 0;
-    let mut b = 0;
-    while b < blocks {
-        let n = put_laid(
-            s,
-            places,
-            index,
-            firsts,
-            numbers,
-            slots,
-            lists,
-            values,
-            b,
-            &mut out[at..],
-        );
-        at += n;
-        b += 1;
+    for b in 0..laying.numbered.indexed.blocks.count {
+        out.at += put_laid(laying, b, &mut out.bytes[out.at..]);
     }
-    at
 }

@@ -1,38 +1,37 @@
 -- The loop that counts a block's instructions, and the one that numbers them block by block.
 use Prim.Native.Nat.{ℕ, zero, suc, ◌+◌, ◌-◌, ◌<◌, ◌≤◌}
-use mathlib.Core.Path.{◌≡◌, ap, ◌∙◌}
-use mathlib.Core.Bool.{Bool, true, false}
-use mathlib.Core.List.{List}
+use mathlib.Core.Path.{◌≡◌, sym, ap, ◌∙◌}
+use mathlib.Core.Bool.{Bool, true, false, cond}
+use mathlib.Core.List.{List, ◌∷◌}
 use native.Mathlib.Omega.{arith}
 use lib.ListN.{length, get_or}
 use lib.Dec.{eqb}
+use Rattle.std.specs.List.{filter, range_with_len}
 use Rattle.rules.specs.Records.{kind, record_at, record_count}
 use Rattle.rules.specs.File.{function_in}
 use Rattle.graph.specs.Between.{between_none}
 use Rattle.graph.specs.ByTable.{end-le, start-less}
 use Rattle.graph.specs.Sections.{place_if, places}
 use Rattle.graph.specs.Tables.{Given}
-use Rattle.listing.specs.Stepping.{heads_from, heads-more}
+use Rattle.listing.specs.Stepping.{opens, heads_from, heads-more}
 
-pub heads-none : (s : List ℕ) (end : ℕ) → length (heads_from s end end) ≡ 0
+heads-none : (s : List ℕ) (end : ℕ) → length (heads_from s end end) ≡ 0
 heads-none s end = ap (λ rs. length (places (eqb 4) end rs)) (between_none s end)
 
-module _ (s : List ℕ) (end : ℕ) (k : end ≤ record_count s) (p : ℕ) (l : 0 < p) (m : p ≤ end) where
-  further : heads_from s (p - 1) end ≡ place_if (eqb (kind (record_at s (p - 1))) 4) (p - 1) (heads_from s p end)
-  further =
-      let same : suc (p - 1) ≡ p = omega arith in
-      heads-more s end k (p - 1) (omega arith)
-      ∙ ap (λ (q : ℕ). place_if (eqb (kind (record_at s (p - 1))) 4) (p - 1) (heads_from s q end)) same
-
-  -- an instruction's record is one more,
-  pub heads-one : eqb (kind (record_at s (p - 1))) 4 ≡ true → length (heads_from s (p - 1) end) ≡ suc (length (heads_from s p end))
-  heads-one e = ap length (further ∙ ap (λ (b : Bool). place_if b (p - 1) (heads_from s p end)) e)
-
-  -- and another record is none
-  pub heads-other : eqb (kind (record_at s (p - 1))) 4 ≡ false → length (heads_from s (p - 1) end) ≡ length (heads_from s p end)
-  heads-other e = ap length (further ∙ ap (λ (b : Bool). place_if b (p - 1) (heads_from s p end)) e)
-
 module _ (s : List ℕ) (end : ℕ) (k : end ≤ record_count s) where
+  -- as many as the places where one starts
+  pub heads-filtered : (n p : ℕ) → p + n ≡ end → length (filter (opens s) (range_with_len p n)) ≡ length (heads_from s p end)
+  heads-filtered zero p e = let same : end ≡ p = omega arith in sym (ap (λ (q : ℕ). length (heads_from s q end)) (sym same) ∙ heads-none s end)
+  heads-filtered (suc n) p e =
+      let next : p + 1 ≡ suc p = omega arith in
+      step (opens s p) (filter (opens s) (range_with_len (p + 1) n)) (heads_from s (suc p) end)
+      (ap (λ (q : ℕ). length (filter (opens s) (range_with_len q n))) next ∙ heads-filtered n (suc p) (omega arith))
+      ∙ sym (ap length (heads-more s end k p (omega arith)))
+    where
+      step : (b : Bool) (xs ys : List ℕ) → length xs ≡ length ys → length (cond {A = List ℕ} b (p ∷ xs) xs) ≡ length (place_if b p ys)
+      step true xs ys e = ap suc e
+      step false xs ys e = e
+
   one_more : (b : Bool) (p : ℕ) (ps : List ℕ) → length (place_if b p ps) ≤ suc (length ps)
   one_more true p ps = omega arith
   one_more false p ps = omega arith

@@ -3,6 +3,7 @@
 
 pub mod blocks;
 pub mod firsts;
+pub mod indexed;
 pub mod instructions;
 pub mod numbers;
 pub mod runs;

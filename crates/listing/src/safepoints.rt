@@ -1,31 +1,29 @@
 // Whether an instruction, by its number, is a safepoint of a reachable block: if it is not, asking for its list is refused.
-ghost use Rattle.std.specs.Prelude.{◌≡◌, not, true, ◌≤◌, length, get_or};
+ghost use Rattle.std.specs.Prelude.{◌≡◌, not, ◌≤◌, get_or};
 ghost use Rattle.std.proofs.Math.Option.{none};
 ghost use Rattle.rules.specs.Lists.{is_none};
-ghost use Rattle.rules.specs.Records.{record_count, records};
-ghost use Rattle.rules.specs.File.{function_in, ordered};
+ghost use Rattle.rules.specs.Records.{record_count};
+ghost use Rattle.rules.specs.File.{function_in};
 ghost use Rattle.rules.specs.Liveness.{lists};
 ghost use Rattle.listing.specs.Stepping.{instructions_from};
-ghost use Rattle.listing.specs.Tables.{IndexTables};
-ghost use Rattle.listing.specs.Firsts.{Firsts};
 ghost use Rattle.listing.specs.HasList.{is_safepoint_at};
 
+use crate::indexed::Numbered;
 use crate::instructions::is_safepoint;
-use records::in_order::kind_at;
+use records::file::File;
+use rules::kinds;
 
 // Whether instruction k from a place on, and before place end, is a safepoint.
-fn safepoint_in(s: &[u8], start: usize, end: usize, k: usize) -> bool
-    requires { (start ≤ end) × (end ≤ record_count s.now) × (ordered 0 (records s.now) ≡ true) }
-    ensures { result ≡ is_safepoint_at (instructions_from s.now start end) k }
+fn safepoint_in(file: File<'_>, start: usize, end: usize, k: usize) -> bool
+    requires { (start ≤ end) × (end ≤ record_count file.bytes.now) }
+    ensures { result ≡ is_safepoint_at (instructions_from file.entry.bytes.now start end) k }
 {
+    // Counted down beside the loop, which ends at the instruction asked for, or at the end.
     let mut left = k;
-    let mut p = start;
-    while p < end {
-        let at = p;
-        p += 1;
-        if kind_at(s, at) == 4 {
+    for p in start..end {
+        if file.kind_at(p) == kinds::INSTRUCTION {
             if left == 0 {
-                return is_safepoint(s, at);
+                return is_safepoint(file, p);
             }
             left -= 1;
         }
@@ -34,28 +32,16 @@ fn safepoint_in(s: &[u8], start: usize, end: usize, k: usize) -> bool
 }
 
 // Whether instruction i has a list.
-pub fn is_reachable_safepoint(
-    s: &[u8],
-    places: &[usize],
-    blocks: usize,
-    index: &[usize],
-    firsts: &[usize],
-    i: usize,
-) -> bool
-    requires { IndexTables s.now places.now index.now × Firsts s.now firsts.now × (blocks ≡ length (function_in s.now).blocks) }
-    ensures { result ≡ not (is_none (get_or (lists (function_in s.now)) i none)) }
+pub fn is_reachable_safepoint(numbered: Numbered<'_>, i: usize) -> bool
+    ensures { result ≡ not (is_none (get_or (lists (function_in numbered.entry.indexed.blocks.file.bytes.now)) i none)) }
 {
-    let mut b: usize = 0;
-    while b < blocks {
-        if i < firsts[b + 1] {
-            if index[b] == 0 {
-                return false;
-            }
-            let start = places[b] + 1;
-            let end = places[b + 1];
-            return safepoint_in(s, start, end, i - firsts[b]);
+    let blocks = numbered.indexed.blocks;
+    for b in 0..blocks.count {
+        if i < numbered.firsts[b + 1] {
+            let body = blocks.body(b);
+            return numbered.indexed.index[b] != 0
+                && safepoint_in(blocks.file, body.start, body.end, i - numbered.firsts[b]);
         }
-        b += 1;
     }
     false
 }

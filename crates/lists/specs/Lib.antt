@@ -10,3 +10,4 @@ pub mod Truths
 pub mod Pairs
 pub mod Splits
 pub mod Down
+pub mod Calls

@@ -1,7 +1,8 @@
 -- PROGRAMS THAT THE CONTRACTS RULE OUT, each by what they say of one of document 01's sheets: one that refuses everything, is
 -- always unchanged, writes nothing, has one fixed output, invents visits, lists every marked value, or never shares slots.
-use Rattle.std.specs.Prelude.{ℕ, ◌≡◌, false, replicate, eqb}
+use Rattle.std.specs.Prelude.{ℕ, ◌≡◌, refl, false, replicate, eqb, Result, Ok, IsOk, IsOkAnd}
 use Rattle.std.proofs.Math.Path.{ap}
+use Rattle.std.proofs.Common.{sym, subst}
 use mathlib.Core.List.{List}
 use Rattle.std.proofs.Common.{arith}
 use Rattle.std.proofs.Math.ListN.{get_or}
@@ -10,14 +11,14 @@ use Rattle.rules.specs.Records.{decode, record_at, records, first_words, bytes}
 use Rattle.rules.specs.File.{followers, follows, function, function_records}
 use Rattle.rules.specs.Graph.{reachable}
 use Rattle.rules.specs.Liveness.{process, lists_of, is_spilled}
-use Rattle.rules.specs.Refusals.{refusal_number, file_refusals}
+use Rattle.rules.specs.Refusals.{file_refusals}
 use Rattle.rules.specs.Slots.{give_slot, free_slot}
 use Rattle.rules.specs.Plan.{planned}
 use Rattle.rules.specs.Rewriting.{rewritten}
 use Rattle.rules.specs.Services.{liveness_verdict, liveness_answer, list_verdict, list_answer, records_of, rewriting_verdict, rewriting_answer, rewriting_output}
 use Rattle.rules.specs.SheetFiles.{file, p1, p2, p3, p5}
-use Rattle.rules.specs.declared.LivenessAnswer.{LivenessAnswer}
-use Rattle.rules.specs.declared.ListAnswer.{ListAnswer}
+use Rattle.rules.specs.declared.LivenessCounts.{LivenessCounts}
+use Rattle.rules.specs.declared.Refusal.{Refusal}
 use Rattle.rules.specs.declared.RewritingAnswer.{RewritingAnswer}
 use Rattle.outcomes.specs.Outcomes.{LivenessAllows, ListAllows, RewritingAllows}
 
@@ -25,17 +26,17 @@ use Rattle.outcomes.specs.Outcomes.{LivenessAllows, ListAllows, RewritingAllows}
 abbrev lent : ℕ
 lent = 1024
 
-module _ (answer : RewritingAnswer) (out : List ℕ) where
+module _ (answer : Result RewritingAnswer Refusal) (out : List ℕ) where
   -- P1 is not refused, and not unchanged
-  pub not-refused : RewritingAllows (file p1) 8 lent answer out → refusal_number answer.verdict ≡ 0
+  pub not-refused : RewritingAllows (file p1) 8 lent answer out → IsOk answer
   unfolding
       p1 rewriting_answer rewriting_verdict records_of file_refusals decode record_at records first_words followers follows function function_records reachable process lists_of is_spilled give_slot free_slot planned rewritten
-  not-refused h = ap (λ (a : RewritingAnswer). refusal_number a.verdict) h.0
+  not-refused h = subst IsOk (sym h.0) refl
 
-  pub not-unchanged : RewritingAllows (file p1) 8 lent answer out → answer.unchanged ≡ false
+  pub not-unchanged : RewritingAllows (file p1) 8 lent answer out → IsOkAnd answer (λ a. a.unchanged ≡ false)
   unfolding
       p1 rewriting_answer rewriting_verdict records_of file_refusals decode record_at records first_words followers follows function function_records reachable process lists_of is_spilled give_slot free_slot planned rewritten
-  not-unchanged h = ap (λ (a : RewritingAnswer). a.unchanged) h.0
+  not-unchanged h = subst (λ r. IsOkAnd r (λ a. a.unchanged ≡ false)) (sym h.0) refl
 
   -- something is written: the kind of the first record
   pub not-nothing : RewritingAllows (file p1) 8 lent answer out → out ≡ replicate lent 0 → ⊥
@@ -48,7 +49,7 @@ module _ (answer : RewritingAnswer) (out : List ℕ) where
 
   -- and what is written depends on the file: the second value is an address in P1, and in P5 the file's own
   pub not-one-output :
-      (answer' : RewritingAnswer) (out' : List ℕ)
+      (answer' : Result RewritingAnswer Refusal) (out' : List ℕ)
       → RewritingAllows (file p1) 8 lent answer out → RewritingAllows (file p5) 8 lent answer' out' → out ≡ out' → ⊥
   unfolding
       p1 p5 rewriting_output rewriting_verdict records_of file_refusals decode record_at records first_words bytes followers follows function function_records reachable process lists_of is_spilled give_slot free_slot planned rewritten
@@ -59,10 +60,10 @@ module _ (answer : RewritingAnswer) (out : List ℕ) where
       omega (arith, address, own, same)
 
   -- P2's visits and pushes
-  pub visits-counted : RewritingAllows (file p2) 8 lent answer out → (answer.visits ≡ 5) × (answer.pushes ≡ 8)
+  pub visits-counted : RewritingAllows (file p2) 8 lent answer out → IsOkAnd answer (λ a. (a.visits ≡ 5) × (a.pushes ≡ 8))
   unfolding
       p2 rewriting_answer rewriting_verdict records_of file_refusals decode record_at records first_words followers follows function function_records reachable process lists_of is_spilled give_slot free_slot planned rewritten
-  visits-counted h = (ap (λ (a : RewritingAnswer). a.visits) h.0, ap (λ (a : RewritingAnswer). a.pushes) h.0)
+  visits-counted h = subst (λ r. IsOkAnd r (λ a. (a.visits ≡ 5) × (a.pushes ≡ 8))) (sym h.0) (refl, refl)
 
   -- P5's maps do not list every marked value: they have two entries together
   pub not-all-in-maps : RewritingAllows (file p5) 8 lent answer out → count (eqb 11) (first_words out) ≡ 2
@@ -71,19 +72,19 @@ module _ (answer : RewritingAnswer) (out : List ℕ) where
   not-all-in-maps h = ap (λ (xs : List ℕ). count (eqb 11) (first_words xs)) h.1
 
   -- P3's two values share a slot
-  pub slots-shared : RewritingAllows (file p3) 8 lent answer out → answer.slots ≡ 1
+  pub slots-shared : RewritingAllows (file p3) 8 lent answer out → IsOkAnd answer (λ a. a.slots ≡ 1)
   unfolding
       p3 rewriting_answer rewriting_verdict records_of file_refusals decode record_at records first_words followers follows function function_records reachable process lists_of is_spilled give_slot free_slot planned rewritten
-  slots-shared h = ap (λ (a : RewritingAnswer). a.slots) h.0
+  slots-shared h = subst (λ r. IsOkAnd r (λ a. a.slots ≡ 1)) (sym h.0) refl
 
 -- P5 has two marked values, and its first safepoint lists one of them
-pub not-all-listed : (answer : ListAnswer) (numbers : List ℕ) → ListAllows (file p5) 3 2 answer numbers → answer.count ≡ 1
+pub not-all-listed : (answer : Result ℕ Refusal) (numbers : List ℕ) → ListAllows (file p5) 3 2 answer numbers → answer ≡ Ok 1
 unfolding
     p5 list_answer list_verdict file_refusals decode record_at records first_words followers follows function reachable process lists_of
-not-all-listed answer numbers h = ap (λ (a : ListAnswer). a.count) h.0
+not-all-listed answer numbers h = h.0
 
 -- liveness alone counts P2's visits and pushes alike
-pub live-visits-counted : (answer : LivenessAnswer) (ins outs : List ℕ) → LivenessAllows (file p2) 512 512 answer ins outs → (answer.visits ≡ 5) × (answer.pushes ≡ 8)
+pub live-visits-counted : (answer : Result LivenessCounts Refusal) (ins outs : List ℕ) → LivenessAllows (file p2) 512 512 answer ins outs → answer ≡ Ok (record { visits = 5; pushes = 8 })
 unfolding
     p2 liveness_answer liveness_verdict file_refusals decode record_at records first_words followers follows function reachable process
-live-visits-counted answer ins outs h = (ap (λ (a : LivenessAnswer). a.visits) h.0, ap (λ (a : LivenessAnswer). a.pushes) h.0)
+live-visits-counted answer ins outs h = h.0

@@ -29,9 +29,8 @@ use Rattle.listing.specs.Parted.{run_end, run-parts, chain-past, of_kind-other}
 use Rattle.listing.specs.Stepping.{heads_from, BlockRecords}
 use Rattle.rows.specs.Rows.{rows, HasRow}
 use Rattle.numbering.specs.Beside.{made_at, mades_between, instruction_plans_at, block_plan_at}
-use Rattle.planning.specs.declared.Progress.{Progress}
 use Rattle.planning.specs.Operands.{Range, Reading, define_at}
-use Rattle.planning.specs.Standing.{Tables, tables, plan_of, Good, Kept, Ran, Walked, Slotted}
+use Rattle.planning.specs.Standing.{Progress, Tables, tables, plan_of, Good, Kept, Ran, Walked, Slotted}
 use Rattle.planning.specs.SlotsGiven.{slotted-ran}
 use Rattle.planning.specs.Walking.{kept-none, kept_more}
 use Rattle.spiller.specs.Instructions.{any_kind}

@@ -1,10 +1,8 @@
 // One block: slots for what is live out of it, its instructions, the last one first, and its parameters.
-ghost use Rattle.std.specs.Prelude.{◌≡◌, true, ◌+◌, ◌-◌, ◌<◌, ◌≤◌, length, get_or};
-ghost use Rattle.rules.specs.Records.{kind, record_at, record_count, records};
-ghost use Rattle.rules.specs.File.{function_in, ordered};
-ghost use Rattle.graph.specs.Tables.{Given};
-ghost use Rattle.planning.specs.Operands.{Reading};
-ghost use Rattle.planning.specs.Standing.{tables};
+ghost use Rattle.std.specs.Prelude.{◌≡◌, ◌+◌, ◌-◌, ◌<◌, ◌≤◌, length, get_or};
+ghost use Rattle.rules.specs.Records.{kind, record_at, record_count};
+ghost use Rattle.rules.specs.File.{function_in};
+ghost use Rattle.planning.specs.Lent.{SameLent, tables_of};
 ghost use Rattle.rows.specs.Rows.{rows};
 ghost use Rattle.listing.specs.Stepping.{heads_from};
 ghost use Rattle.spiller.specs.Instructions.{any_kind};
@@ -13,10 +11,10 @@ ghost use Rattle.planner.specs.Backward.{LastBefore, Walk, InstructionsNoted};
 ghost use Rattle.planner.specs.Blocks.{BlockGiven, BlockReady, BlockNoted};
 
 use listing::runs::run_end;
-use planning::Progress;
-use planning::asks::ask_all;
-use planning::runs::plan_definitions;
-use records::in_order::kind_at;
+use planning::SafepointSpiller;
+use planning::spilled::SpilledBlocks;
+use records::file::File;
+use rules::kinds;
 use spiller::instructions::{InstructionSpot, plan_instruction};
 
 // Where a block's records stand: the first behind its own, its first instruction, the place behind it, and the number
@@ -30,53 +28,43 @@ pub struct BlockSpot {
 }
 
 // The last instruction from place front on and before place end; one stands at place front.
-fn last_instruction(s: &[u8], front: usize, end: usize) -> usize
-    requires { (front < end) × (end ≤ record_count s.now) × (kind (record_at s.now front) ≡ 4) × (ordered 0 (records s.now) ≡ true) }
-    ensures { LastBefore s.now front end result }
+fn last_instruction(file: File<'_>, front: usize, end: usize) -> usize
+    requires { (front < end) × (end ≤ record_count file.bytes.now) × (kind (record_at file.bytes.now front) ≡ 4) }
+    ensures { LastBefore file.entry.bytes.now front end result }
 {
-    let mut i = end;
-    while i > front {
-        i -= 1;
-        if kind_at(s, i) == 4 {
+    for i in (front..end).rev() {
+        if file.kind_at(i) == kinds::INSTRUCTION {
             return i;
         }
     }
-    i
+    front
 }
 
-// The instructions of a block; the lists of all safepoints are rows by number.
+// The instructions of a block; the lists of all safepoints are rows by number. A `while`, since it goes back from instruction to
+// instruction: a `for` over the places between would have to keep where the last one began as well.
 pub fn plan_instructions(
-    s: &[u8],
-    places: &[usize],
-    spilled: &[u64],
+    spiller: &mut SafepointSpiller<'_>,
+    blocks: SpilledBlocks<'_>,
     lists: &[u64],
     block: BlockSpot,
-    asked: &mut [u64],
-    steps: &mut [u32],
-    sizes: &mut [u32],
-    numbers: &mut [u32],
-    p: Progress,
-) -> Progress
-    requires { Reading s.now spilled.now × Given s.now places.now × Walk s.now lists.now block.start block.front block.end block.behind × Ready (function_in s.now) (Within s.now any_kind block.front block.end) block.end (block.end - block.front) (tables asked.old steps.old sizes.old p) numbers.old }
-    ensures { InstructionsNoted s.now lists.now (rows spilled.now 0) block.end p.pointer block.front (block.behind - length (heads_from s.now block.front block.end)) (tables asked.old steps.old sizes.old p) numbers.old (tables asked.new steps.new sizes.new result) numbers.new }
+)
+    requires { Walk blocks.spilled.file.bytes.now lists.now block.start block.front block.end block.behind × Ready (function_in blocks.spilled.file.bytes.now) (Within blocks.spilled.file.bytes.now any_kind block.front block.end) block.end (block.end - block.front) (tables_of spiller.old) spiller.old.numbers.now }
+    ensures lent { SameLent spiller.old spiller.new }
+    ensures noted { InstructionsNoted blocks.entry.spilled.file.bytes.now lists.now (rows blocks.entry.spilled.row.now 0) block.end spiller.old.pointer block.front (block.behind - length (heads_from blocks.entry.spilled.file.bytes.now block.front block.end)) (tables_of spiller.old) spiller.old.numbers.now (tables_of spiller.new) spiller.new.numbers.now }
 {
-    let mut done = p;
     let mut i = block.end;
     let mut number = block.behind;
     while i > block.front {
-        let place = last_instruction(s, block.front, i);
+        let place = last_instruction(blocks.spilled.file, block.front, i);
         number -= 1;
         let at = InstructionSpot {
             place,
             end: i,
             number,
         };
-        done = plan_instruction(
-            s, places, spilled, lists, at, asked, steps, sizes, numbers, done,
-        );
+        plan_instruction(spiller, blocks, lists, at);
         i = place;
     }
-    done
 }
 
 // A block by its number, and the number behind its last instruction's.
@@ -88,43 +76,29 @@ pub struct BlockNumber {
 
 // A block, whose live-out is a row.
 pub fn plan_block(
-    s: &[u8],
-    places: &[usize],
-    spilled: &[u64],
+    spiller: &mut SafepointSpiller<'_>,
+    blocks: SpilledBlocks<'_>,
     lists: &[u64],
     outs: &[u64],
     at: BlockNumber,
-    asked: &mut [u64],
-    steps: &mut [u32],
-    sizes: &mut [u32],
-    numbers: &mut [u32],
-    p: Progress,
-) -> Progress
-    requires { Reading s.now spilled.now × Given s.now places.now × BlockGiven s.now lists.now outs.now at.block at.behind (get_or places.now at.block 0 + 1) (get_or places.now (at.block + 1) 0) × BlockReady s.now at.block (tables asked.old steps.old sizes.old p) numbers.old }
-    ensures { BlockNoted s.now p.pointer at.block (tables asked.old steps.old sizes.old p) numbers.old (tables asked.new steps.new sizes.new result) numbers.new }
+)
+    requires { BlockGiven blocks.spilled.file.bytes.now lists.now outs.now at.block at.behind (get_or blocks.places.now at.block 0 + 1) (get_or blocks.places.now (at.block + 1) 0) × BlockReady blocks.spilled.file.bytes.now at.block (tables_of spiller.old) spiller.old.numbers.now }
+    ensures lent { SameLent spiller.old spiller.new }
+    ensures noted { BlockNoted blocks.entry.spilled.file.bytes.now spiller.old.pointer at.block (tables_of spiller.old) spiller.old.numbers.now (tables_of spiller.new) spiller.new.numbers.now }
 {
     let b = at.block;
-    let start = places[b] + 1;
-    let end = places[b + 1];
-    let front = run_end(s, 3, start, end);
-    let count = ask_all(spilled, outs, b, p.given, asked, steps, p.steps);
-    let slotted = Progress {
-        pointer: p.pointer,
-        given: p.given,
-        made: p.made,
-        blocks: p.blocks,
-        steps: count,
-    };
+    let spilled = blocks.spilled;
+    let start = blocks.places[b] + 1;
+    let end = blocks.places[b + 1];
+    let front = run_end(spilled.file, kinds::PARAMETER, start, end);
+    let values = spiller.given;
+    spiller.ask_all(spilled.row, outs, b, values);
     let block = BlockSpot {
         start,
         front,
         end,
         behind: at.behind,
     };
-    let done = plan_instructions(
-        s, places, spilled, lists, block, asked, steps, sizes, numbers, slotted,
-    );
-    plan_definitions(
-        s, spilled, 3, start, front, asked, steps, sizes, numbers, done,
-    )
+    plan_instructions(spiller, blocks, lists, block);
+    spiller.plan_definitions(spilled, kinds::PARAMETER, start, front);
 }

@@ -1,104 +1,64 @@
 // The whole function: all reachable blocks by ascending index.
-ghost use Rattle.std.specs.Prelude.{◌≤◌, length};
+ghost use Rattle.std.specs.Prelude.{◌≡◌, ◌≤◌, length};
 ghost use Rattle.rules.specs.Records.{record_count};
 ghost use Rattle.rules.specs.File.{function_in};
-ghost use Rattle.rules.specs.Graph.{reachable};
-ghost use Rattle.graph.specs.Links.{Walked};
+ghost use Rattle.rules.specs.Graph.{reachable as reachable_in};
 ghost use Rattle.graph.specs.Zeros.{Zeros};
 ghost use Rattle.listing.specs.Firsts.{Firsts};
+ghost use Rattle.planning.specs.Lent.{SameLent, tables_of};
 ghost use Rattle.planning.specs.Operands.{Reading};
-ghost use Rattle.planning.specs.Standing.{tables};
 ghost use Rattle.planning_edges.specs.Noted.{Able};
 ghost use Rattle.planner.specs.AllBlocks.{BlocksNoted};
 ghost use Rattle.planner.specs.BlockTables.{PlanTables};
-ghost use Rattle.planner.specs.Functions.{PlanGiven, PlanLent, unplanned, FunctionPlanned};
+ghost use Rattle.planner.specs.Functions.{PlanGiven, PlanLent, Begun, FunctionPlanned};
 
 use crate::blocks::{BlockNumber, plan_block};
-use planning::Progress;
+use graph::blocks::Reachable;
+use planning::SafepointSpiller;
+use planning::spilled::{Spilled, SpilledBlocks};
 
-// The reachable blocks, which a table lists by index; another has the number of each block's first instruction.
+// The reachable blocks; a table has the number of each block's first instruction, and a row the spilled values.
 pub fn plan_blocks(
-    s: &[u8],
-    places: &[usize],
-    order: &[usize],
-    count: usize,
+    spiller: &mut SafepointSpiller<'_>,
+    reachable: Reachable<'_>,
     firsts: &[usize],
-    spilled: &[u64],
+    row: &[u64],
     lists: &[u64],
     outs: &[u64],
-    asked: &mut [u64],
-    steps: &mut [u32],
-    sizes: &mut [u32],
-    numbers: &mut [u32],
-    p: Progress,
-) -> Progress
-    requires { Reading s.now spilled.now × Walked s.now places.now order.now count × PlanTables s.now places.now lists.now outs.now × Firsts s.now firsts.now × Zeros numbers.old × (record_count s.now ≤ length numbers.old) × Able (function_in s.now) (tables asked.old steps.old sizes.old p) (record_count s.now) }
-    ensures { BlocksNoted s.now p.pointer (reachable (function_in s.now)) (tables asked.old steps.old sizes.old p) numbers.old (tables asked.new steps.new sizes.new result) numbers.new }
+)
+    requires { Reading reachable.blocks.file.bytes.now row.now × PlanTables reachable.blocks.file.bytes.now reachable.blocks.places.now lists.now outs.now × Firsts reachable.blocks.file.bytes.now firsts.now × Zeros spiller.old.numbers.now × (record_count reachable.blocks.file.bytes.now ≤ length spiller.old.numbers.now) × Able (function_in reachable.blocks.file.bytes.now) (tables_of spiller.old) (record_count reachable.blocks.file.bytes.now) }
+    ensures lent { SameLent spiller.old spiller.new }
+    ensures noted { BlocksNoted reachable.entry.blocks.file.bytes.now spiller.old.pointer (reachable_in (function_in reachable.entry.blocks.file.bytes.now)) (tables_of spiller.old) spiller.old.numbers.now (tables_of spiller.new) spiller.new.numbers.now }
 {
-    let mut done = p;
-    let mut i: usize = 0;
-    while i < count {
-        let b = order[i];
-        let at = BlockNumber {
-            block: b,
-            behind: firsts[b + 1],
-        };
-        done = plan_block(
-            s, places, spilled, lists, outs, at, asked, steps, sizes, numbers, done,
-        );
-        i += 1;
-    }
-    done
-}
-
-// How large a function is: the size of an address, how many values and blocks the file has, and how many blocks are
-// reachable.
-#[derive(Clone, Copy)]
-pub struct FunctionSize {
-    pub pointer: u32,
-    pub values: usize,
-    pub blocks: usize,
-    pub reachable: usize,
-}
-
-// The whole function.
-pub fn plan_function(
-    s: &[u8],
-    places: &[usize],
-    order: &[usize],
-    firsts: &[usize],
-    spilled: &[u64],
-    lists: &[u64],
-    outs: &[u64],
-    size: FunctionSize,
-    asked: &mut [u64],
-    steps: &mut [u32],
-    sizes: &mut [u32],
-    numbers: &mut [u32],
-) -> Progress
-    requires { PlanGiven s.now places.now order.now firsts.now spilled.now lists.now outs.now size × PlanLent s.now asked.old steps.old sizes.old numbers.old }
-    ensures { FunctionPlanned s.now size.pointer (tables asked.old steps.old sizes.old (unplanned size.pointer size.values size.blocks)) (tables asked.new steps.new sizes.new result) numbers.old numbers.new }
-{
-    let start = Progress {
-        pointer: size.pointer,
-        given: size.values,
-        made: 0,
-        blocks: size.blocks,
-        steps: 0,
+    let spilled = Spilled {
+        file: reachable.blocks.file,
+        row,
     };
-    plan_blocks(
-        s,
-        places,
-        order,
-        size.reachable,
-        firsts,
+    let blocks = SpilledBlocks {
         spilled,
-        lists,
-        outs,
-        asked,
-        steps,
-        sizes,
-        numbers,
-        start,
-    )
+        places: reachable.blocks.places,
+    };
+    for &block in reachable.order {
+        let at = BlockNumber {
+            block,
+            behind: firsts[block + 1],
+        };
+        plan_block(spiller, blocks, lists, outs, at);
+    }
+}
+
+// The whole function, over a spiller at its start.
+pub fn plan_function(
+    spiller: &mut SafepointSpiller<'_>,
+    reachable: Reachable<'_>,
+    firsts: &[usize],
+    row: &[u64],
+    lists: &[u64],
+    outs: &[u64],
+)
+    requires { PlanGiven reachable.blocks.file.bytes.now firsts.now row.now lists.now outs.now × PlanLent reachable.blocks.file.bytes.now spiller.old.asked.now spiller.old.steps.now spiller.old.sizes.now spiller.old.numbers.now × Begun reachable.blocks.file.bytes.now (tables_of spiller.old) }
+    ensures lent { SameLent spiller.old spiller.new }
+    ensures planned { FunctionPlanned reachable.entry.blocks.file.bytes.now spiller.old.pointer (tables_of spiller.old) (tables_of spiller.new) spiller.old.numbers.now spiller.new.numbers.now }
+{
+    plan_blocks(spiller, reachable, firsts, row, lists, outs);
 }

@@ -20,9 +20,8 @@ use Rattle.sharing.specs.SlotSteps.{SlotStep, gives, frees, taken, replayed, rep
 use Rattle.rows.specs.Rows.{rows, row_values}
 use Rattle.rules.specs.Plan.{Plan, plan_load}
 use Rattle.numbering.specs.NewValues.{unmarked, new_values}
-use Rattle.planning.specs.Standing.{step_of, noted, Tables, tables, Asked, slots_by, Known, Good, Ran}
+use Rattle.planning.specs.Standing.{Progress, step_of, noted, Tables, tables, Asked, slots_by, Known, Good, Ran}
 use Rattle.planning.specs.Walking.{new_values-more}
-use Rattle.planning.specs.declared.Progress.{Progress}
 
 pub give-number : (v : ℕ) → step_of (2 * v) ≡ gives v
 give-number v =

@@ -3,4 +3,3 @@ pub mod Naming
 pub mod Storing
 pub mod OneRecord
 pub mod Slotting
-pub mod NoArgument

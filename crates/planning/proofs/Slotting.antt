@@ -20,14 +20,7 @@ slotting-start all asked steps n =
     record { slots = λ f known. refl; known = λ f known. known; room = λ k h. h; grows = λ v h. h; asked_long = refl; steps_long = refl }
 
 module _ (spilled set : NumberSet) (v : ℕ) (asked steps : List ℕ) (n : ℕ) where
-  -- a value that is not in both sets is not asked for
-  pub slotted-out : set v ≡ false → Slotted (spilled_from spilled set v 1) asked steps n asked steps n
-  slotted-out e = rw e (slotting-start [] asked steps n)
-
-  pub slotted-unspilled : set v ≡ true → spilled v ≡ false → Slotted (spilled_from spilled set v 1) asked steps n asked steps n
-  slotted-unspilled e d = rw (e, d, keep) (slotting-start [] asked steps n)
-
-  -- and one that is, is
+  -- a value that is in both sets is asked for
   pub slotted-in :
       set v ≡ true → spilled v ≡ true → v < row_values → n + lack one row_values (rows asked 0) + 0 ≤ length steps
       → (asked' steps' : List ℕ) (n' : ℕ) → Asked v asked steps n asked' steps' n'

@@ -17,9 +17,8 @@ use Rattle.rules.specs.Plan.{plan_definition, plan_store}
 use Rattle.sharing.specs.SlotSteps.{SlotStep, free_own, taken}
 use Rattle.rows.specs.Rows.{rows, row_values}
 use Rattle.numbering.specs.NewValues.{unmarked, new_values}
-use Rattle.planning.specs.Standing.{Tables, tables, slots_by, plan_of, Good, Ran}
+use Rattle.planning.specs.Standing.{Progress, Tables, tables, slots_by, plan_of, Good, Ran}
 use Rattle.planning.specs.Walking.{new_values-more}
-use Rattle.planning.specs.declared.Progress.{Progress}
 use Rattle.planning.proofs.Asking.{free-number, slots-more, plan-same}
 
 -- a freed slot stays its value's

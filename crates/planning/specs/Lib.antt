@@ -3,3 +3,4 @@ pub mod Operands
 pub mod Walking
 pub mod Marks
 pub mod SlotsGiven
+pub mod Lent

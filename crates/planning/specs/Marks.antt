@@ -18,7 +18,7 @@ use Rattle.lists.specs.Tests.{T-ext, eqb_swap}
 use Rattle.records.specs.Parts.{argument}
 use Rattle.graph.specs.Between.{between, between_none, between_more}
 use Rattle.graph.specs.Sections.{place_if, places}
-use Rattle.planning.specs.declared.operands.Operand.TheVariants as operand
+use Rattle.std.specs.Prelude.{Some, None}
 use Rattle.planning.specs.Standing.{Tables, plan_of, mark, step_at, walk, Walked}
 use Rattle.planning.specs.Operands.{operand_at, use_by, use_at, define_by, define_at}
 
@@ -96,7 +96,7 @@ module _ (s : List ℕ) (pointer k : ℕ) where
 
       go :
           (b : Bool)
-          → use_by s pointer (cond b (operand.Value w.second) operand.Nothing) p ≡ cond b (plan_use f pointer w.second) (pure none) p
+          → use_by s pointer (cond b (Some w.second) None) p ≡ cond b (plan_use f pointer w.second) (pure none) p
       go true = refl
       go false = refl
 
@@ -110,7 +110,7 @@ module _ (s : List ℕ) (pointer k : ℕ) where
 
       go :
           (b c d : Bool)
-          → use_by s pointer (cond b (cond c (operand.Value w.third) operand.Nothing) operand.Nothing) p
+          → use_by s pointer (cond b (cond c (Some w.third) None) None) p
           ≡ cond b
           (plan_edge_use f pointer (cond c (passes.Value w.third) (cond d (passes.Returned w.third) (passes.Exception w.third))))
           (pure none) p
@@ -129,7 +129,7 @@ module _ (s : List ℕ) (pointer k : ℕ) where
 
       go :
           (b : Bool)
-          → define_by s pointer (cond b (operand.Value w.second) operand.Nothing) p
+          → define_by s pointer (cond b (Some w.second) None) p
           ≡ cond b (plan_definition f pointer w.second) (pure none) p
       go true = refl
       go false = refl

@@ -8,20 +8,19 @@ use Rattle.rules.specs.Liveness.{is_spilled}
 use Rattle.rules.specs.Plan.{Made, Planning, pure, plan_use, plan_definition}
 use Rattle.rules.specs.declared.Words.{Words}
 use Rattle.rows.specs.Rows.{rows, HasRow}
-use Rattle.planning.specs.declared.operands.Operand.{Operand}
-use Rattle.planning.specs.declared.operands.Operand.TheVariants as operand
+use Rattle.std.specs.Prelude.{Option, Some, None}
 
 -- The value that a record of kind k names. A returned or exception word is none.
-abbrev pub operand_of : Words → ℕ → Operand
+abbrev pub operand_of : Words → ℕ → Option ℕ
 operand_of w k =
     cond (eqb w.kind k)
-    (cond (eqb k 8) (cond (eqb w.second 0) (operand.Value w.third) operand.Nothing) (operand.Value w.second))
-    operand.Nothing
+    (cond (eqb k 8) (cond (eqb w.second 0) (Some w.third) None) (Some w.second))
+    None
 
 -- only a value of the set
-abbrev pub among_of : NumberSet → Operand → Operand
-among_of set (operand.Value v) = cond (set v) (operand.Value v) operand.Nothing
-among_of set operand.Nothing = operand.Nothing
+abbrev pub among_of : NumberSet → Option ℕ → Option ℕ
+among_of set (Some v) = cond (set v) (Some v) None
+among_of set None = None
 
 -- what planning reads: a file in order, and the row of its spilled values
 pub record Reading (s spilled : List ℕ) : Type 0 where
@@ -36,17 +35,17 @@ pub record Range (s numbers : List ℕ) (start end : ℕ) : Type 0 where
   pub in_numbers : end ≤ length numbers
 
 module _ (s : List ℕ) where
-  unfoldable pub operand_at : ℕ → ℕ → Operand
+  unfoldable pub operand_at : ℕ → ℕ → Option ℕ
   operand_at k place = operand_of (encode (record_at s place)) k
 
   module _ (pointer : ℕ) where
-    abbrev pub use_by : Operand → Planning Made
-    use_by (operand.Value v) = plan_use (function_in s) pointer v
-    use_by operand.Nothing = pure none
+    abbrev pub use_by : Option ℕ → Planning Made
+    use_by (Some v) = plan_use (function_in s) pointer v
+    use_by None = pure none
 
-    abbrev pub define_by : Operand → Planning Made
-    define_by (operand.Value v) = plan_definition (function_in s) pointer v
-    define_by operand.Nothing = pure none
+    abbrev pub define_by : Option ℕ → Planning Made
+    define_by (Some v) = plan_definition (function_in s) pointer v
+    define_by None = pure none
 
     -- the step of rule 3 for the record at a place, if it is of kind k,
     abbrev pub use_at : ℕ → ℕ → Planning Made

@@ -4,8 +4,7 @@ use Rattle.std.proofs.Common.{sym, ap, ◌∙◌, arith}
 use Rattle.rules.specs.Tree.{Function}
 use Rattle.rules.specs.Slots.{StackSlots}
 use Rattle.rules.specs.Plan.{Plan, for_each, plan_slot}
-use Rattle.planning.specs.declared.Progress.{Progress}
-use Rattle.planning.specs.Standing.{tables, plan_of, give_all, Good, Ran, Slotted}
+use Rattle.planning.specs.Standing.{Progress, tables, plan_of, give_all, Good, Ran, Slotted}
 
 module _ (f : Function) (pointer : ℕ) where
   -- a plan with other slots

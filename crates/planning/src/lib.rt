@@ -6,11 +6,19 @@
 pub mod asks;
 pub mod operands;
 pub mod runs;
+pub mod spilled;
 pub mod steps;
 
-// How far planning has come.
-#[derive(Clone, Copy)]
-pub struct Progress {
+// How far planning has come, over lent tables of fixed memory (document 01), so with their counts beside them, and with steps and tags as the
+// numbers that `step_of` and `made` of specs/ read: the row of the values asked for, the steps noted, the sizes of new values, and beside each
+// record of the file the number that is made for it. A caller makes it by a literal: behind a function that took the four tables, nothing
+// would be known of what they are at the end.
+#[derive(Drop)]
+pub struct SafepointSpiller<'t> {
+    pub asked: &'t mut [u64],
+    pub steps: &'t mut [u32],
+    pub sizes: &'t mut [u32],
+    pub numbers: &'t mut [u32],
     // the size of an address
     pub pointer: u32,
     // how many values the file has, and how many are new
@@ -19,5 +27,5 @@ pub struct Progress {
     // how many blocks there are, landings with the file's
     pub blocks: usize,
     // how many steps are noted
-    pub steps: usize,
+    pub noted: usize,
 }

@@ -1,58 +1,34 @@
 // Rules 3 and 1 for the records of a kind between two places, the first one first.
-ghost use Rattle.std.specs.Prelude.{◌-◌};
+ghost use Rattle.std.specs.Prelude.{◌≡◌, ◌-◌};
 ghost use Rattle.rules.specs.File.{function_in};
-ghost use Rattle.planning.specs.Standing.{tables, Good, Walked};
-ghost use Rattle.planning.specs.Operands.{Reading, Range, use_at, define_at};
+ghost use Rattle.planning.specs.Standing.{Good, Walked};
+ghost use Rattle.planning.specs.Operands.{Range, use_at, define_at};
+ghost use Rattle.planning.specs.Lent.{SameLent, tables_of};
 
-use crate::Progress;
-use crate::steps::{plan_definition, plan_use};
+use crate::SafepointSpiller;
+use crate::spilled::Spilled;
 
-// The uses.
-pub fn plan_uses(
-    s: &[u8],
-    spilled: &[u64],
-    kind: u32,
-    start: usize,
-    end: usize,
-    asked: &mut [u64],
-    steps: &mut [u32],
-    sizes: &mut [u32],
-    numbers: &mut [u32],
-    p: Progress,
-) -> Progress
-    requires { Reading s.now spilled.now × Range s.now numbers.old start end × Good (function_in s.now) (tables asked.old steps.old sizes.old p) (end - start) }
-    ensures { Walked (function_in s.now) (use_at s.now p.pointer kind) start (end - start) (tables asked.old steps.old sizes.old p) numbers.old (tables asked.new steps.new sizes.new result) numbers.new }
-{
-    let mut done = p;
-    let mut i = start;
-    while i < end {
-        done = plan_use(s, spilled, kind, i, asked, steps, sizes, numbers, done);
-        i += 1;
+impl<'t> SafepointSpiller<'t> {
+    // The uses.
+    pub fn plan_uses(&mut self, spilled: Spilled<'_>, kind: u32, start: usize, end: usize)
+        requires { Range spilled.file.bytes.now self.old.numbers.now start end × Good (function_in spilled.file.bytes.now) (tables_of self.old) (end - start) }
+        ensures lent { SameLent self.old self.new }
+        ensures walked { Walked (function_in spilled.entry.file.bytes.now) (use_at spilled.entry.file.bytes.now self.old.pointer kind) start (end - start) (tables_of self.old) self.old.numbers.now (tables_of self.new) self.new.numbers.now }
+    {
+        for place in start..end {
+            self.plan_use(spilled, kind, place);
+        }
     }
-    done
-}
 
-// The definitions.
-pub fn plan_definitions(
-    s: &[u8],
-    spilled: &[u64],
-    kind: u32,
-    start: usize,
-    end: usize,
-    asked: &[u64],
-    steps: &mut [u32],
-    sizes: &mut [u32],
-    numbers: &mut [u32],
-    p: Progress,
-) -> Progress
-    requires { Reading s.now spilled.now × Range s.now numbers.old start end × Good (function_in s.now) (tables asked.now steps.old sizes.old p) (end - start) }
-    ensures { Walked (function_in s.now) (define_at s.now p.pointer kind) start (end - start) (tables asked.now steps.old sizes.old p) numbers.old (tables asked.now steps.new sizes.new result) numbers.new }
-{
-    let mut done = p;
-    let mut i = start;
-    while i < end {
-        done = plan_definition(s, spilled, kind, i, asked, steps, sizes, numbers, done);
-        i += 1;
+    // The definitions. The two loops differ in the step; a closure over `&mut self` would need its clause written twice.
+    pub fn plan_definitions(&mut self, spilled: Spilled<'_>, kind: u32, start: usize, end: usize)
+        requires { Range spilled.file.bytes.now self.old.numbers.now start end × Good (function_in spilled.file.bytes.now) (tables_of self.old) (end - start) }
+        ensures lent { SameLent self.old self.new }
+        ensures asked { self.new.asked.now ≡ self.old.asked.now }
+        ensures walked { Walked (function_in spilled.entry.file.bytes.now) (define_at spilled.entry.file.bytes.now self.old.pointer kind) start (end - start) (tables_of self.old) self.old.numbers.now (tables_of self.new) self.new.numbers.now }
+    {
+        for place in start..end {
+            self.plan_definition(spilled, kind, place);
+        }
     }
-    done
 }

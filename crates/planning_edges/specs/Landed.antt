@@ -24,10 +24,9 @@ use Rattle.records.specs.Parts.{argument}
 use Rattle.graph.specs.Between.{between, between_none, between_more}
 use Rattle.graph.specs.Sections.{place_if, places}
 use Rattle.numbering.specs.NewValues.{unmarked, new_values}
-use Rattle.planning.specs.declared.Progress.{Progress}
 use Rattle.planning.specs.Operands.{operand_at, use_at, use_by}
-use Rattle.planning.specs.declared.operands.Operand.TheVariants as operand
-use Rattle.planning.specs.Standing.{Tables, tables, plan_of, Good, mark, walk, Walked}
+use Rattle.std.specs.Prelude.{Some, None}
+use Rattle.planning.specs.Standing.{Progress, Tables, tables, plan_of, Good, mark, walk, Walked}
 use Rattle.planning.specs.Walking.{new_values-more, next-value, walked-some}
 use Rattle.planning.specs.Marks.{marks}
 use Rattle.lists.specs.Tests.{eqb_same}
@@ -95,7 +94,7 @@ module _ (s : List ℕ) (pointer start first : ℕ) where
 
       go : (b c d : Bool) → (b && not c) ≡ false
           → cond b (plan_landed f pointer (cond c (passes.Value w.third) (cond d (passes.Returned w.third) (passes.Exception w.third))) size) (pure none) p
-          ≡ use_by s pointer (cond b (cond c (operand.Value w.third) operand.Nothing) operand.Nothing) p
+          ≡ use_by s pointer (cond b (cond c (Some w.third) None) None) p
       go true true d e = refl
       go true false d e = absurd (subst T e tt)
       go false c d e = refl

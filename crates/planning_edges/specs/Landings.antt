@@ -20,9 +20,8 @@ use Rattle.graph.specs.Blocks.{place_of, body_at, place-le, place-less, block_at
 use Rattle.graph.specs.ByTable.{places-long, place_at, end-le, start-less}
 use Rattle.graph.specs.Tables.{Given}
 use Rattle.numbering.specs.Beside.{made, mades_between, edge_plan_at}
-use Rattle.planning.specs.declared.Progress.{Progress}
 use Rattle.planning.specs.Operands.{Range}
-use Rattle.planning.specs.Standing.{Tables, tables, plan_of, Known, Good, Kept, Walked}
+use Rattle.planning.specs.Standing.{Progress, Tables, tables, plan_of, Known, Good, Kept, Walked}
 use Rattle.planning.specs.Walking.{kept_more}
 use Rattle.planning_edges.specs.BlocksMade.{landed-blocks}
 use Rattle.planning_edges.specs.Landed.{landed_at, zipped, ran_landed, walk-landed}

@@ -1,7 +1,8 @@
 -- Whether an edge passes a spilled value, record by record; and an edge of a safepoint either way.
-use Rattle.std.specs.Prelude.{ℕ, ◌+◌, ◌<◌, ◌≤◌, ◌≡◌, Bool, ◌||◌, cond, eqb}
+use Rattle.std.specs.Prelude.{ℕ, zero, suc, ◌+◌, ◌-◌, ◌<◌, ◌≤◌, ◌≡◌, Bool, ◌||◌, cond, eqb, Some, None, is_some}
+use Rattle.std.specs.List.{list_any, range_with_len}
 use Rattle.std.proofs.Math.Path.{refl}
-use Rattle.std.proofs.Common.{sym, ap, ◌∙◌}
+use Rattle.std.proofs.Common.{sym, ap, ◌∙◌, arith}
 use Rattle.std.proofs.Math.Bool.{true, false}
 use mathlib.Core.List.{List, [], ◌∷◌, map}
 use Rattle.rules.specs.Lists.{any, NumberSet}
@@ -14,20 +15,13 @@ use Rattle.rules.specs.declared.EdgeArgument.TheVariants as passes
 use Rattle.rules.specs.declared.Record.{Record}
 use Rattle.rules.specs.declared.Words.{Words}
 use Rattle.records.specs.Parts.{argument}
-use Rattle.graph.specs.Between.{between, between_none, between_next}
+use Rattle.graph.specs.Between.{between, between_none, between_more, between_next}
 use Rattle.rows.specs.Rows.{rows}
 use Rattle.planning.specs.Operands.{among_of, operand_at, Reading}
-use Rattle.planning.specs.declared.operands.Operand.{Operand}
-use Rattle.planning.specs.declared.operands.Operand.TheVariants as operand
 
 -- some edge argument among records is a value of the set
 unfoldable pub passing : NumberSet → List Record → Bool
 passing set rs = any set (values_among (map argument (of_kind 8 rs)))
-
--- there is a value
-abbrev pub names : Operand → Bool
-names (operand.Value v) = true
-names operand.Nothing = false
 
 module _ (set : NumberSet) where
   -- one record more
@@ -52,29 +46,46 @@ module _ (set : NumberSet) where
 
   module _ (s : List ℕ) where
     -- what the record at a place passes
-    pub passing-at : (place : ℕ) → names (among_of set (operand_at s 8 place)) ≡ passing set (record_at s place ∷ [])
+    pub passing-at : (place : ℕ) → is_some (among_of set (operand_at s 8 place)) ≡ passing set (record_at s place ∷ [])
     unfolding passing operand_at
     passing-at place = go (eqb (kind (record_at s place)) 8)
       where
         w : Words
         w = encode (record_at s place)
 
-        found : (b : Bool) → names (cond b (operand.Value w.third) operand.Nothing) ≡ (b || false)
+        found : (b : Bool) → is_some (cond b (Some w.third) None) ≡ (b || false)
         found true = refl
         found false = refl
 
         valued : (c d : Bool)
-            → names (among_of set (cond c (operand.Value w.third) operand.Nothing))
+            → is_some (among_of set (cond c (Some w.third) None))
             ≡ any set (values_among (cond c (passes.Value w.third) (cond d (passes.Returned w.third) (passes.Exception w.third)) ∷ []))
         valued true d = found (set w.third)
         valued false true = refl
         valued false false = refl
 
         go : (b : Bool)
-            → names (among_of set (cond b (cond (eqb w.second 0) (operand.Value w.third) operand.Nothing) operand.Nothing))
+            → is_some (among_of set (cond b (cond (eqb w.second 0) (Some w.third) None) None))
             ≡ any set (values_among (map argument (elim b [ true ↦ w ∷ [] | false ↦ [] ])))
         go true = valued (eqb w.second 0) (eqb w.second 1)
         go false = refl
+
+    -- what the records of a run pass, place by place
+    passing-from :
+        (n p q : ℕ) → p + n ≡ q → q ≤ record_count s → list_any (λ i. passing set (record_at s i ∷ [])) (range_with_len p n) ≡ passing set (between s p q)
+    unfolding passing
+    passing-from zero p q e l =
+        let same : q ≡ p = omega arith in
+        rw (same, between_none s p) refl
+    passing-from (suc n) p q e l =
+        let next : p + 1 ≡ suc p = omega arith in
+        ap (λ (i : ℕ). passing set (record_at s p ∷ []) || list_any (λ j. passing set (record_at s j ∷ [])) (range_with_len i n)) next
+        ∙ ap (λ (b : Bool). passing set (record_at s p ∷ []) || b) (passing-from n (suc p) q (omega arith) l)
+        ∙ sym (ap (passing set) (between_more s p q (omega arith) l) ∙ passing-more (record_at s p) (between s (suc p) q))
+
+    passing-any :
+        (p q : ℕ) → p ≤ q → q ≤ record_count s → list_any (λ i. passing set (record_at s i ∷ [])) (range_with_len p (q - p)) ≡ passing set (between s p q)
+    passing-any p q u l = passing-from (q - p) p q (omega arith) l
 
     module _ (i end : ℕ) (l : i < end) (k : end ≤ record_count s) where
       -- one place passes a value: so do all,
@@ -91,10 +102,17 @@ module _ (set : NumberSet) where
     unfolding passing
     passing-none i end e = rw (e, between_none s end) refl
 
--- what is found at a place, by the row of spilled values
-pub passing-found :
-    (s spilled : List ℕ) → Reading s spilled → (place : ℕ) (x y : Operand) → x ≡ operand_at s 8 place → y ≡ among_of (rows spilled 0) x
-    → names y ≡ passing (is_spilled (function_in s)) (record_at s place ∷ [])
-passing-found s spilled r place x y at among =
-    ap names (among ∙ ap (among_of (rows spilled 0)) at) ∙ passing-at (rows spilled 0) s place
-    ∙ ap (λ (set : NumberSet). passing set (record_at s place ∷ [])) r.is_row
+module _ (s spilled : List ℕ) (r : Reading s spilled) where
+  -- what is found at a place, by the row of spilled values
+  pub passing-found : (place : ℕ) → is_some (among_of (rows spilled 0) (operand_at s 8 place)) ≡ passing (is_spilled (function_in s)) (record_at s place ∷ [])
+  passing-found place =
+      passing-at (rows spilled 0) s place ∙ ap (λ (set : NumberSet). passing set (record_at s place ∷ [])) r.is_row
+
+  -- and at some place of a run
+  pub passing-some :
+      (p q : ℕ) → p ≤ q → q ≤ record_count s
+      → list_any (λ place. is_some (among_of (rows spilled 0) (operand_at s 8 place))) (range_with_len p (q - p))
+      ≡ passing (is_spilled (function_in s)) (between s p q)
+  passing-some p q u l =
+      ap (λ (test : ℕ → Bool). list_any test (range_with_len p (q - p))) (λ i place. passing-found place i)
+      ∙ passing-any (is_spilled (function_in s)) s p q u l

@@ -1,18 +1,18 @@
 -- Edges by place: where the next one stands, and the parts of one run behind another.
 use Prim.Native.Nat.{ℕ, zero, suc, ◌+◌, ◌-◌, ◌<◌, ◌≤◌}
-use Rattle.std.specs.Prelude.{◌≡◌, Bool, true, false, List, [], ◌∷◌, ◌++◌, T, eqb}
+use Rattle.std.specs.Prelude.{◌≡◌, Bool, true, false, cond, List, [], ◌∷◌, ◌++◌, T, eqb, Option, Some}
+use Rattle.std.specs.List.{find, range_with_len}
+use Rattle.std.specs.Option.{unwrap_or}
 use Rattle.std.proofs.Math.Path.{refl, ap}
-use Rattle.std.proofs.Common.{sym, ap₂, subst, ◌∙◌, eqb→eq}
+use Rattle.std.proofs.Common.{sym, ap₂, subst, ◌∙◌, eqb→eq, add-one}
 use native.Mathlib.Omega.{arith}
-use Rattle.rules.specs.Records.{encode, kind, record_at, record_count}
+use Rattle.rules.specs.Records.{kind, record_at, record_count}
 use Rattle.rules.specs.File.{Section}
 use Rattle.rules.specs.Plan.{EdgePlan}
 use Rattle.rules.specs.declared.Record.{Record}
 use Rattle.lists.specs.Tests.{eqb_same}
 use Rattle.graph.specs.Between.{between, between_none, between_more, length-between}
 use Rattle.graph.specs.Sections.{place_if, places, first_or, sections_at, first-bounds}
-use Rattle.graph.specs.NextEdge.{edge_from, edge_or, next_edge}
-use Rattle.graph.specs.declared.edges.NextEdge.{NextEdge}
 use Rattle.numbering.specs.Beside.{edge_plan_at, edge_plans_at}
 
 -- the places of the edges from place p on and before place q
@@ -23,63 +23,7 @@ edge_places s p q = places (eqb 7) p (between s p q)
 unfoldable pub next_edge_place : List ℕ → ℕ → ℕ → ℕ
 next_edge_place s p q = first_or q (edge_places s p q)
 
--- as the next edge is found: by its tag, and the place behind it
-abbrev pub found_place : ℕ → ℕ → ℕ → ℕ
-found_place q zero behind = q
-found_place q (suc _) behind = behind - 1
-
 module _ (s : List ℕ) where
-  found_from : (n p q : ℕ) → p + n ≡ q → q ≤ record_count s
-      → found_place q (next_edge p (between s p q)).tag (next_edge p (between s p q)).behind ≡ first_or q (edge_places s p q)
-  found_from zero p q e l =
-      let same : q ≡ p = omega arith in
-      rw (same, between_none s p) refl
-  found_from (suc n) p q e l =
-      rw (between_more s p q (omega arith) l)
-      (go (eqb (kind (record_at s p)) 7) (eqb 7 (kind (record_at s p))) (eqb_same (kind (record_at s p)) 7) (found_from n (suc p) q (omega arith) l))
-    where
-      go : (b c : Bool) → b ≡ c
-          → found_place q (next_edge (suc p) (between s (suc p) q)).tag (next_edge (suc p) (between s (suc p) q)).behind ≡ first_or q (edge_places s (suc p) q)
-          → (let x : NextEdge = edge_or (elim b [ true ↦ suc (encode (record_at s p)).second | false ↦ 0 ]) (suc p) (next_edge (suc p) (between s (suc p) q)) in
-          found_place q x.tag x.behind) ≡ first_or q (place_if c p (edge_places s (suc p) q))
-      go true true e later = omega arith
-      go true false e later = absurd (subst T e tt)
-      go false true e later = absurd (subst T (sym e) tt)
-      go false false e later = later
-
-  found-place : (p q : ℕ) → p ≤ q → q ≤ record_count s → found_place q (edge_from s p q).tag (edge_from s p q).behind ≡ next_edge_place s p q
-  unfolding edge_from next_edge_place
-  found-place p q l m = found_from (q - p) p q (omega arith) m
-
-  -- by what is found
-  pub found_none : (p q : ℕ) → p ≤ q → q ≤ record_count s → (x : NextEdge) → x ≡ edge_from s p q → x.tag ≡ 0 → q ≡ next_edge_place s p q
-  found_none p q l m x is none =
-      sym (ap (λ (n : ℕ). found_place q n x.behind) none) ∙ ap (λ (y : NextEdge). found_place q y.tag y.behind) is ∙ found-place p q l m
-
-  pub found_some : (p q : ℕ) → p ≤ q → q ≤ record_count s → (x : NextEdge) → x ≡ edge_from s p q → (x.tag ≡ 0 → ⊥) → x.behind - 1 ≡ next_edge_place s p q
-  found_some p q l m x is some = go x.tag some ∙ ap (λ (y : NextEdge). found_place q y.tag y.behind) is ∙ found-place p q l m
-    where
-      go : (n : ℕ) → (n ≡ 0 → ⊥) → x.behind - 1 ≡ found_place q n x.behind
-      go zero h = absurd (h refl)
-      go (suc n) h = refl
-
-  -- what is found has a place before the one behind it
-  behind-after : (p : ℕ) (rs : List Record) → ((next_edge p rs).tag ≡ 0 → ⊥) → p < (next_edge p rs).behind
-  behind-after p [] some = absurd (some refl)
-  behind-after p (r ∷ rs) some = go (eqb (kind r) 7) some (behind-after (suc p) rs)
-    where
-      go : (b : Bool)
-          → ((edge_or (elim b [ true ↦ suc (encode r).second | false ↦ 0 ]) (suc p) (next_edge (suc p) rs)).tag ≡ 0 → ⊥)
-          → (((next_edge (suc p) rs).tag ≡ 0 → ⊥) → suc p < (next_edge (suc p) rs).behind)
-          → p < (edge_or (elim b [ true ↦ suc (encode r).second | false ↦ 0 ]) (suc p) (next_edge (suc p) rs)).behind
-      go true some later = omega arith
-      go false some later = omega (arith, later some)
-
-  pub found-behind : (p q : ℕ) (x : NextEdge) → x ≡ edge_from s p q → (x.tag ≡ 0 → ⊥) → 0 < x.behind
-  unfolding edge_from
-  found-behind p q x is some =
-      omega (arith, ap (λ (y : NextEdge). y.behind) is, behind-after p (between s p q) (λ h. some (ap (λ (y : NextEdge). y.tag) is ∙ h)))
-
   -- it lies between the two,
   pub next-bounds : (p q : ℕ) → p ≤ q → q ≤ record_count s → (p ≤ next_edge_place s p q) × (next_edge_place s p q ≤ q)
   unfolding next_edge_place

@@ -1,79 +1,45 @@
--- The line of a refusal, byte by byte, and the program's answer by the input's length.
-use Prim.Native.Nat.{ℕ, ◌+◌, ◌/◌, ◌%◌, ◌<◌, ◌≤◌}
-use mathlib.Core.Path.{◌≡◌, sym, ap, ◌∙◌}
-use mathlib.Core.Bool.{Bool, true, false}
-use mathlib.Core.List.{List, [], ◌∷◌, ◌++◌}
+-- The line of a refusal, as it is written: its number in decimal.
+use Prim.Native.Nat.{ℕ, ◌+◌, ◌<◌, ◌^◌}
 use native.Mathlib.Omega.{arith}
-use lib.ListN.{length, replicate}
-use borrow.Author.Tests.{lt-ltb, le-ltb}
-use Rattle.rules.specs.Lists.{padded}
-use Rattle.rules.specs.Limits.{program_input, program_pointer}
+use lib.ListN.{length, get_or}
+use mathlib.Core.Path.{◌≡◌, refl, ap}
+use mathlib.Core.List.{List, [], ◌∷◌, ◌++◌}
+use Rattle.std.specs.Prelude.{decimal}
+use Rattle.std.specs.Str.Parse.{AllDigits, digits_value}
+use Rattle.std.proofs.lemmas.Fmt.{decimal_digit, decimal-digits_value}
+use Rattle.std.proofs.lemmas.Str.Parse.{IsNumeralModel}
 use Rattle.rules.specs.Refusals.{refusal_number}
-use Rattle.rules.specs.Services.{refused_line, rewriting_answer, rewriting_output}
-use Rattle.rules.specs.declared.RewritingAnswer.{RewritingAnswer}
-use Rattle.rules.specs.declared.Verdict.{Verdict}
-use Rattle.rules.specs.declared.Verdict.TheVariants as verdict
-use Rattle.rewriting.specs.Answers.{refused_by}
-use Rattle.program.specs.Program.{line_bytes, program_answer, program_buffer}
+use Rattle.rules.specs.Services.{refused_line}
+use Rattle.rules.specs.declared.Refusal.{Refusal}
+use Rattle.rules.specs.declared.Refusal.TheVariants as refusal
 
--- `refused ` and what follows
-abbrev pub refused_and : List ℕ → List ℕ
-refused_and rest = 114 ∷ 101 ∷ 102 ∷ 117 ∷ 115 ∷ 101 ∷ 100 ∷ 32 ∷ rest
+-- `refused n` and a line feed
+abbrev pub line : ℕ → List ℕ
+line n = 114 ∷ 101 ∷ 102 ∷ 117 ∷ 115 ∷ 101 ∷ 100 ∷ 32 ∷ (decimal n ++ (10 ∷ []))
 
--- no refusal has a number above 11
-pub refusal-small : (v : Verdict) → refusal_number v < 12
-refusal-small verdict.Accepted = omega arith
-refusal-small verdict.PointerSize = omega arith
-refusal-small verdict.Length = omega arith
-refusal-small verdict.TooMany = omega arith
-refusal-small verdict.Malformed = omega arith
-refusal-small verdict.NotInFile = omega arith
-refusal-small verdict.NotDefinedOnce = omega arith
-refusal-small verdict.Unsound = omega arith
-refusal-small verdict.MarkedContext = omega arith
-refusal-small verdict.SlotSize = omega arith
-refusal-small verdict.NoSafepoint = omega arith
-refusal-small verdict.TooShort = omega arith
+-- a line by the digits of its number
+by-digits : (n : ℕ) {ds : List ℕ} → decimal n ≡ ds → line n ≡ 114 ∷ 101 ∷ 102 ∷ 117 ∷ 115 ∷ 101 ∷ 100 ∷ 32 ∷ (ds ++ (10 ∷ []))
+by-digits n e = ap (λ (ds : List ℕ). 114 ∷ 101 ∷ 102 ∷ 117 ∷ 115 ∷ 101 ∷ 100 ∷ 32 ∷ (ds ++ (10 ∷ []))) e
 
-module _ (n : ℕ) where
-  -- one digit
-  line-one : n < 10 → refused_and ((48 + n % 10) ∷ 10 ∷ []) ≡ refused_line n
-  line-one l =
-      ap (λ (b : Bool). refused_and (elim b as (λ _. List ℕ) [ true ↦ [] | false ↦ (48 + n / 10) ∷ [] ] ++ ((48 + n % 10) ∷ 10 ∷ []))) (sym (lt-ltb n 10 l))
+one : (n : ℕ) → n < 10 → line n ≡ 114 ∷ 101 ∷ 102 ∷ 117 ∷ 115 ∷ 101 ∷ 100 ∷ 32 ∷ (48 + n) ∷ 10 ∷ []
+one n l = by-digits n (decimal_digit n l)
 
-  -- two
-  line-two : 10 ≤ n → n < 12 → refused_and ((48 + n / 10 % 10) ∷ (48 + n % 10) ∷ 10 ∷ []) ≡ refused_line n
-  line-two l m =
-      let tens : n / 10 % 10 ≡ n / 10 = omega arith in
-      ap (λ (t : ℕ). refused_and ((48 + t) ∷ (48 + n % 10) ∷ 10 ∷ [])) tens
-      ∙ ap (λ (b : Bool). refused_and (elim b as (λ _. List ℕ) [ true ↦ [] | false ↦ (48 + n / 10) ∷ [] ] ++ ((48 + n % 10) ∷ 10 ∷ []))) (sym (le-ltb n 10 l))
+-- the digits of a number are its own
+own : IsNumeralModel (AllDigits 10) (digits_value 10)
+own = record { to = λ ds d. d; from = λ ds d. d; same = λ ds d. refl }
 
-  -- in sixteen bytes, with how many of them it is
-  abbrev pub InLine : List ℕ → ℕ → Type 0
-  InLine bytes count = (bytes ≡ padded line_bytes (refused_line n)) × (count ≡ length (refused_line n))
+two : (ds : List ℕ) → AllDigits 10 ds → 0 < length ds → (get_or ds 0 0 ≡ 48 → length ds ≡ 1) → digits_value 10 ds < 2 ^ 64 → decimal (digits_value 10 ds) ≡ ds
+two = decimal-digits_value own
 
-  pub one-digit : n < 10 → InLine (padded line_bytes (refused_and ((48 + n % 10) ∷ 10 ∷ []))) 10
-  one-digit l = (ap (padded line_bytes) (line-one l), ap length (line-one l))
-
-  pub two_digits : 10 ≤ n → n < 12 → InLine (padded line_bytes (refused_and ((48 + n / 10 % 10) ∷ (48 + n % 10) ∷ 10 ∷ []))) 11
-  two_digits l m = (ap (padded line_bytes) (line-two l m), ap length (line-two l m))
-
-module _ (s : List ℕ) (n : ℕ) where
-  -- an input that is too long
-  pub program-long : program_input < length s → (refused_by verdict.TooMany ≡ program_answer s n) × (replicate n 0 ≡ program_buffer s n)
-  unfolding program_answer program_buffer
-  program-long l =
-      let long = sym (lt-ltb program_input (length s) l) in (
-        ap (λ (b : Bool). elim b as (λ _. RewritingAnswer) [ true ↦ refused_by verdict.TooMany | false ↦ rewriting_answer s program_pointer n ]) long,
-        ap (λ (b : Bool). elim b as (λ _. List ℕ) [ true ↦ replicate n 0 | false ↦ rewriting_output s program_pointer n ]) long,
-      )
-
-  -- one that is not
-  pub program-rewrites :
-      length s ≤ program_input → (rewriting_answer s program_pointer n ≡ program_answer s n) × (rewriting_output s program_pointer n ≡ program_buffer s n)
-  unfolding program_answer program_buffer
-  program-rewrites l =
-      let short = sym (le-ltb program_input (length s) l) in (
-        ap (λ (b : Bool). elim b as (λ _. RewritingAnswer) [ true ↦ refused_by verdict.TooMany | false ↦ rewriting_answer s program_pointer n ]) short,
-        ap (λ (b : Bool). elim b as (λ _. List ℕ) [ true ↦ replicate n 0 | false ↦ rewriting_output s program_pointer n ]) short,
-      )
+pub line-of : (e : Refusal) → line (refusal_number e) ≡ refused_line (refusal_number e)
+line-of refusal.PointerSize = one 1 (omega arith)
+line-of refusal.Length = one 2 (omega arith)
+line-of refusal.TooMany = one 3 (omega arith)
+line-of refusal.Malformed = one 4 (omega arith)
+line-of refusal.NotInFile = one 5 (omega arith)
+line-of refusal.NotDefinedOnce = one 6 (omega arith)
+line-of refusal.Unsound = one 7 (omega arith)
+line-of refusal.MarkedContext = one 8 (omega arith)
+line-of refusal.SlotSize = one 9 (omega arith)
+line-of refusal.NoSafepoint = by-digits 10 (two (49 ∷ 48 ∷ []) (omega arith, (omega arith, tt)) (omega arith) (λ e. absurd (omega arith)) (omega arith))
+line-of (refusal.TooShort n) = by-digits 11 (two (49 ∷ 49 ∷ []) (omega arith, (omega arith, tt)) (omega arith) (λ e. absurd (omega arith)) (omega arith))

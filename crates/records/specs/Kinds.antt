@@ -1,6 +1,7 @@
 -- Lists of records by their kinds: what picking a kind out, and cutting in front of a kind, give on a list put together.
 use Rattle.std.specs.Prelude.{ℕ, ◌≡◌, refl, Bool, true, false, not, List, [], ◌∷◌, ◌++◌, map, T, eqb, ltb}
-use Rattle.std.proofs.Common.{sym, ap, ap₂, ◌∙◌, append-nil}
+use Rattle.std.proofs.Common.{sym, ap, ap₂, ◌∙◌, arith, append-nil}
+use Rattle.std.proofs.lemmas.Bool.{ne_eqb}
 use Rattle.rules.specs.Lists.{all, concat_map}
 use Rattle.rules.specs.Records.{encode, kind}
 use Rattle.rules.specs.declared.Words.{Words}
@@ -133,3 +134,26 @@ kind-small (record'.Store _ _) = tt
 kind-small (record'.Load _ _ _) = tt
 kind-small record'.Jump = tt
 kind-small record'.Outside = tt
+
+-- only an edge argument's record is of kind 8,
+pub is-argument : (r : Record) → kind r ≡ 8 → (x : EdgeArgument) × (r ≡ record'.EdgeArgument x)
+is-argument (record'.Value _ _) h = absurd (omega arith)
+is-argument (record'.Block _ _) h = absurd (omega arith)
+is-argument (record'.Parameter _) h = absurd (omega arith)
+is-argument (record'.Instruction _ _ _) h = absurd (omega arith)
+is-argument (record'.Result _) h = absurd (omega arith)
+is-argument (record'.Argument _) h = absurd (omega arith)
+is-argument (record'.Edge _) h = absurd (omega arith)
+is-argument (record'.EdgeArgument x) h = (x, refl)
+is-argument (record'.Context _) h = absurd (omega arith)
+is-argument (record'.Slot _) h = absurd (omega arith)
+is-argument (record'.MapEntry _ _) h = absurd (omega arith)
+is-argument (record'.SlotAddress _ _) h = absurd (omega arith)
+is-argument (record'.Store _ _) h = absurd (omega arith)
+is-argument (record'.Load _ _ _) h = absurd (omega arith)
+is-argument record'.Jump h = absurd (omega arith)
+is-argument record'.Outside h = absurd (omega arith)
+
+-- so a record that is none has another kind
+pub no-argument : (r : Record) → ((x : EdgeArgument) → r ≡ record'.EdgeArgument x → ⊥) → eqb (kind r) 8 ≡ false
+no-argument r n = ne_eqb (kind r) 8 (λ h. let x = is-argument r h in n x.0 x.1)

@@ -1,5 +1,5 @@
 -- What is written is read back: a word from its bytes, a record from its words, a file from its records.
-use Rattle.std.specs.Prelude.{ℕ, suc, ◌≤◌, ◌+◌, ◌*◌, ◌/◌, ◌%◌, ◌<◌, ◌≡◌, refl, Bool, true, false, ◌&&◌, List, [], ◌∷◌, ◌++◌, length, drop, set, T, leb, eqb}
+use Rattle.std.specs.Prelude.{ℕ, zero, suc, ◌≤◌, ◌+◌, ◌*◌, ◌/◌, ◌%◌, ◌<◌, ◌≡◌, refl, Bool, true, false, ◌&&◌, List, [], ◌∷◌, ◌++◌, length, take, drop, set, T, leb, eqb}
 use Rattle.std.proofs.Common.{ap, ap₂, ◌∙◌, div-add-mod', mod-eq_of_lt, div-mul-le_self, arith, length-append, ltb→lt}
 use Rattle.std.proofs.Math.Nat.{div-div-eq-div-mul}
 use Rattle.std.proofs.Math.Dec.{eqb_refl}
@@ -139,6 +139,12 @@ pub put_front : (bs t : List ℕ) → length bs ≤ length t → put_from 0 bs t
 put_front [] t h = refl
 put_front (b ∷ bs) [] h = absurd (omega arith)
 put_front (b ∷ bs) (x ∷ t) h = put-behind 0 b bs t ∙ ap (λ u. b ∷ u) (put_front bs t (omega arith))
+
+-- further on they stand between what lies in front of them and what lies behind
+pub put-between : (i : ℕ) (bs t : List ℕ) → i + length bs ≤ length t → put_from i bs t ≡ take i t ++ (bs ++ drop (length bs) (drop i t))
+put-between zero bs t h = put_front bs t (omega arith)
+put-between (suc i) bs [] h = absurd (omega arith)
+put-between (suc i) bs (x ∷ t) h = put-behind i x bs t ∙ ap (λ u. x ∷ u) (put-between i bs t (omega arith))
 
 -- the bytes of four words
 abbrev pub bytes_of_words : Words → List ℕ

@@ -8,27 +8,20 @@ ghost use Rattle.records.specs.InTable.{four_words};
 ghost use Rattle.records.specs.Writing.{put_from, bytes_of_words};
 ghost use Rattle.rules.specs.declared.Record.TheVariants.{EdgeArgument as RecordOfArgument};
 
-use rules::{EdgeArgument, RECORD_BYTES, Record, Words};
+use rules::{EdgeArgument, RECORD_BYTES, Record, Words, kinds};
 
-pub mod in_order;
+pub mod file;
 pub mod table;
-pub mod values;
-
-fn wide(x: u8) -> u32
-    ensures { (result ≡ x) × (result < 256) }
-{
-    x as u32
-}
 
 // The unsigned 32-bit little-endian word at byte i.
 pub fn word_at(s: &[u8], i: usize) -> u32
     requires { i + 4 ≤ length s.now }
     ensures { result ≡ word_at s.now i }
 {
-    wide(s[i]) + 256 * wide(s[i + 1]) + 65536 * wide(s[i + 2]) + 16777216 * wide(s[i + 3])
+    u32::from_le_bytes([s[i], s[i + 1], s[i + 2], s[i + 3]])
 }
 
-// Four words, as one.
+// Four words, as one. This, `edge_argument` and `words_of` are functions and no `From`: their contracts are public promises (PROMISES).
 pub fn words(kind: u32, second: u32, third: u32, fourth: u32) -> Words
     ensures { result ≡ words_are kind second third fourth }
 {
@@ -65,16 +58,6 @@ pub fn edge_argument(a: u32, b: u32) -> EdgeArgument
     }
 }
 
-// 0 or 1, for a table's flag.
-fn bit_of(flag: bool) -> u32
-    ensures { result ≡ bit flag }
-{
-    if flag {
-        return 1;
-    }
-    0
-}
-
 // The logarithm of a slot's size.
 fn log2_of(size: u32) -> u32
     ensures { result ≡ log2 size }
@@ -93,9 +76,9 @@ fn words_of_argument(x: EdgeArgument) -> Words
     ensures { result ≡ encode (RecordOfArgument x) }
 {
     match x {
-        EdgeArgument::Value(v) => words(8, 0, v, 0),
-        EdgeArgument::Returned(k) => words(8, 1, k, 0),
-        EdgeArgument::Exception(k) => words(8, 2, k, 0),
+        EdgeArgument::Value(v) => words(kinds::EDGE_ARGUMENT, 0, v, 0),
+        EdgeArgument::Returned(k) => words(kinds::EDGE_ARGUMENT, 1, k, 0),
+        EdgeArgument::Exception(k) => words(kinds::EDGE_ARGUMENT, 2, k, 0),
     }
 }
 
@@ -104,38 +87,36 @@ pub fn words_of(r: Record) -> Words
     ensures { result ≡ encode r }
 {
     match r {
-        Record::Value { size, marked } => words(1, size, bit_of(marked), 0),
-        Record::Block { cold, number } => words(2, bit_of(cold), number, 0),
-        Record::Parameter(v) => words(3, v, 0, 0),
+        Record::Value { size, marked } => words(kinds::VALUE, size, u32::from(marked), 0),
+        Record::Block { cold, number } => words(kinds::BLOCK, u32::from(cold), number, 0),
+        Record::Parameter(v) => words(kinds::PARAMETER, v, 0, 0),
         Record::Instruction {
             safepoint,
             terminator,
             tag,
-        } => words(4, bit_of(safepoint) + 2 * bit_of(terminator), tag, 0),
-        Record::Result(v) => words(5, v, 0, 0),
-        Record::Argument(v) => words(6, v, 0, 0),
-        Record::Edge(block) => words(7, block, 0, 0),
+        } => words(
+            kinds::INSTRUCTION,
+            u32::from(safepoint) + 2 * u32::from(terminator),
+            tag,
+            0,
+        ),
+        Record::Result(v) => words(kinds::RESULT, v, 0, 0),
+        Record::Argument(v) => words(kinds::ARGUMENT, v, 0, 0),
+        Record::Edge(block) => words(kinds::EDGE, block, 0, 0),
         Record::EdgeArgument(x) => words_of_argument(x),
-        Record::Context(v) => words(9, v, 0, 0),
-        Record::Slot(size) => words(10, size, log2_of(size), 0),
-        Record::MapEntry { slot, size } => words(11, slot, size, 0),
-        Record::SlotAddress { result, slot } => words(12, result, slot, 0),
-        Record::Store { value, address } => words(13, value, address, 0),
+        Record::Context(v) => words(kinds::CONTEXT, v, 0, 0),
+        Record::Slot(size) => words(kinds::SLOT, size, log2_of(size), 0),
+        Record::MapEntry { slot, size } => words(kinds::MAP_ENTRY, slot, size, 0),
+        Record::SlotAddress { result, slot } => words(kinds::SLOT_ADDRESS, result, slot, 0),
+        Record::Store { value, address } => words(kinds::STORE, value, address, 0),
         Record::Load {
             result,
             address,
             size,
-        } => words(14, result, address, size),
-        Record::Jump => words(15, 0, 0, 0),
+        } => words(kinds::LOAD, result, address, size),
+        Record::Jump => words(kinds::JUMP, 0, 0, 0),
         Record::Outside => words(0, 0, 0, 0),
     }
-}
-
-// A byte of a word: its digit to the base 256.
-fn low_byte(w: u32) -> u8
-    ensures { result ≡ w % 256 }
-{
-    (w % 256) as u8
 }
 
 // A word put at byte i, least significant byte first.
@@ -143,10 +124,8 @@ fn put_word(out: &mut [u8], i: usize, w: u32)
     requires { i + 4 ≤ length out.old }
     ensures { out.new ≡ put_from i (bytes_of_word w) out.old }
 {
-    out[i] = low_byte(w);
-    out[i + 1] = low_byte(w / 256);
-    out[i + 2] = low_byte(w / 65536);
-    out[i + 3] = low_byte(w / 16777216);
+    let bytes = w.to_le_bytes();
+    out[i..i + 4].copy_from_slice(&bytes);
 }
 
 // Four words put at the front; what lies behind them stays.

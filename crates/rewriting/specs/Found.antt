@@ -1,6 +1,6 @@
 -- What follows from the rows that are found of an accepted file: how its tree is, which values are spilled, and the answers
 -- that need no plan.
-use Rattle.std.specs.Prelude.{ℕ, zero, suc, ◌-◌, ◌≤◌, ◌≡◌, refl, Bool, true, false, List, [], ◌∷◌, length, get_or, replicate, T}
+use Rattle.std.specs.Prelude.{ℕ, zero, suc, ◌-◌, ◌≤◌, ◌≡◌, refl, Bool, true, false, List, [], ◌∷◌, length, get_or, replicate, T, Ok, Err}
 use Rattle.std.proofs.Common.{sym, ap, subst, ◌∙◌, arith}
 use Rattle.rules.specs.Limits.{largest_records}
 use Rattle.rules.specs.Lists.{empty, padded, members}
@@ -12,7 +12,7 @@ use Rattle.rules.specs.Refusals.{spilled_size}
 use Rattle.rules.specs.Services.{is_unchanged}
 use Rattle.rules.specs.Plan.{Plan, planned}
 use Rattle.rules.specs.Rewriting.{rewritten}
-use Rattle.rules.specs.declared.Verdict.TheVariants as verdict
+use Rattle.rules.specs.declared.Refusal.TheVariants as refusal
 use Rattle.lists.specs.Tests.{is_true, is_false, test-elim}
 use Rattle.lists.specs.Members.{◌∈◌, not-∈-nil}
 use Rattle.fixpoint.specs.Finding.{∈-keep, ∈-up_from}
@@ -25,7 +25,7 @@ use Rattle.rows.specs.Rows.{rows, row_values, size, size-members}
 use Rattle.planning.specs.Operands.{Reading}
 use Rattle.acceptance.specs.Survey.{accepted-is}
 use Rattle.rewriting.specs.declared.Found.{Found}
-use Rattle.rewriting.specs.Answers.{Outcome, refused_by, outcome-refused, outcome-accepted, verdict-size, verdict-unchanged, records-unchanged}
+use Rattle.rewriting.specs.Answers.{Outcome, outcome-refused, outcome-accepted, verdict-size, verdict-unchanged, records-unchanged}
 use Rattle.rewriting.specs.Rows.{LiveRows, PointerFine}
 use Rattle.rewriting.specs.Trees.{accepted-tree}
 use Rattle.rewriting.specs.Unspilled.{planned-nothing}
@@ -105,22 +105,22 @@ module _ {s places order index outs lists spilled : List ℕ} {found : Found} (h
 
   module _ (pointer n : ℕ) (fine : PointerFine pointer) where
     -- 9
-    pub outcome-sized : spilled_size f ≡ true → Outcome s pointer n (refused_by verdict.SlotSize) (replicate n 0)
-    outcome-sized e = outcome-refused s pointer n verdict.SlotSize (verdict-size s pointer n fine h.tables.accepted e) refl refl
+    pub outcome-sized : spilled_size f ≡ true → Outcome s pointer n (Err refusal.SlotSize) (replicate n 0)
+    outcome-sized e = outcome-refused s pointer n refusal.SlotSize (verdict-size s pointer n fine h.tables.accepted e)
 
     -- unchanged: the input's records, and the output all 0
     pub outcome-unchanged :
         spilled_size f ≡ false → is_unchanged f ≡ true → (count : ℕ) → count ≡ record_count s
         → Outcome s pointer n
+        (Ok
         (record {
-          verdict = verdict.Accepted;
           records = count;
           slots = 0;
           landings = 0;
           visits = found.live.visits;
           pushes = found.live.pushes;
           unchanged = true;
-        })
+        }))
         (replicate n 0)
     outcome-unchanged sized e count c =
         let nothing = planned-nothing f pointer tree (none-spilled e) in
@@ -132,7 +132,6 @@ module _ {s places order index outs lists spilled : List ℕ} {found : Found} (h
         outcome-accepted s pointer n (verdict-unchanged s pointer n fine h.tables.accepted sized e) _
         (λ i.
         record {
-          verdict = verdict.Accepted;
           records = (c ∙ sym (records-unchanged s pointer n e)) i;
           slots = made i;
           landings = landed i;

@@ -1,7 +1,8 @@
 -- What a plan is made from and what it leaves: the tables of planning and of the slots, put together.
-use Rattle.std.specs.Prelude.{ℕ, ◌+◌, ◌*◌, ◌<◌, ◌≤◌, ◌≡◌, refl, false, List, length, get_or, replicate, T}
+use Rattle.std.specs.Prelude.{ℕ, ◌+◌, ◌*◌, ◌<◌, ◌≤◌, ◌≡◌, refl, false, List, map, length, get_or, take, replicate, T, is_ok}
 use Rattle.std.proofs.Common.{sym, ap, subst, ◌∙◌, arith}
-use Rattle.std.proofs.lemmas.List.{length-replicate}
+use Rattle.std.proofs.lemmas.List.{length-replicate, length-take-le}
+use Rattle.std.proofs.Math.Seq.{take-length}
 use Rattle.rules.specs.Limits.{largest_records, largest_values, largest_blocks, largest_instructions, table_words, row_words}
 use Rattle.rules.specs.Lists.{or_else}
 use Rattle.rules.specs.Tree.{Function}
@@ -9,8 +10,9 @@ use Rattle.rules.specs.Records.{record_count, records}
 use Rattle.rules.specs.File.{ordered, function_in}
 use Rattle.rules.specs.Liveness.{process, is_spilled}
 use Rattle.rules.specs.Refusals.{first_of, file_refusals, spilled_size}
-use Rattle.rules.specs.Services.{is_accepted}
-use Rattle.rules.specs.Slots.{StackSlots}
+use Rattle.rules.specs.Slots.{StackSlots, no_slots}
+use Rattle.sharing.specs.SlotSteps.{replayed}
+use Rattle.rules.specs.Graph.{size_of}
 use Rattle.rules.specs.Plan.{Plan, planned}
 use Rattle.lists.specs.Tests.{is_true}
 use Rattle.graph.specs.Few.{records-few, values-few, blocks-few, instructions-few}
@@ -21,13 +23,13 @@ use Rattle.rows.specs.Rows.{rows, row_values}
 use Rattle.listing.specs.Ascending.{length-lists-instructions}
 use Rattle.listing.specs.Crossings.{listed}
 use Rattle.listing.specs.Firsts.{Firsts}
-use Rattle.planning.specs.Standing.{Tables, slots_by}
+use Rattle.planning.specs.Standing.{Tables, step_of, noted, slots_by}
 use Rattle.planner.specs.Functions.{PlanGiven, FunctionPlanned}
 use Rattle.planner.specs.Functions.{PlanLent as LentToPlanner}
 use Rattle.layout.specs.Whole.{PlanTables}
 use Rattle.stackslots.specs.Tables.{Lent, Replayed}
 use Rattle.stackslots.specs.Planned.{planned-fitting}
-use Rattle.acceptance.specs.Survey.{accepted-is}
+use Rattle.acceptance.specs.Survey.{accepted-is, walked-exact}
 use Rattle.rewriting.specs.declared.Found.{Found}
 use Rattle.rewriting.specs.declared.Planned.{Planned}
 use Rattle.rewriting.specs.Plans.{counts_of, PlanFound}
@@ -37,7 +39,7 @@ use Rattle.rewriting.specs.Trees.{accepted-tree}
 
 -- an accepted file by its tables, with its live sets, its lists and its spilled values as rows, of sizes that a slot can have
 pub record Plannable (s places order outs lists' spilled : List ℕ) (found : Found) : Type 0 where
-  pub accepted : T (is_accepted (first_of (file_refusals s)))
+  pub accepted : T (is_ok (first_of (file_refusals s)))
   pub walked : Walked s places order found.blocks.reachable
   pub all-counted : found.blocks.all ≡ length (function_in s).blocks
   pub outs-long : length outs ≡ table_words
@@ -89,15 +91,11 @@ module _ {s places order outs lists' spilled : List ℕ} {found : Found} (h : Pl
   values-small = values-few s (accepted-is s h.accepted).readable.few
 
   -- PLANNING can begin
-  pub plan-given :
-      {firsts : List ℕ} → Firsts s firsts → (pointer values : ℕ) → values ≡ get_or places 0 0
-      → PlanGiven s places order firsts spilled lists' outs
-      (record { pointer = pointer; values = values; blocks = found.blocks.all; reachable = found.blocks.reachable })
-  plan-given numbered pointer values v =
+  pub plan-given : {firsts : List ℕ} → Firsts s firsts → PlanGiven s firsts spilled lists' outs
+  plan-given numbered =
       let r = (accepted-is s h.accepted).readable in
       record {
         accepted = h.accepted;
-        walked = h.walked;
         numbered = numbered;
         spilled_row = omega (arith, h.spilled-long);
         spilled_are = h.spilled-row;
@@ -105,8 +103,6 @@ module _ {s places order outs lists' spilled : List ℕ} {found : Found} (h : Pl
         outs_room = omega (arith, h.outs-long, blocks-small);
         rows_are = h.listed-rows;
         lists_room = omega (arith, h.lists-long, length-lists-instructions f, instructions-few s r.few r.in_order);
-        values = v ∙ values-counted;
-        blocks = h.all-counted;
       }
 
   pub plan-lent :
@@ -128,61 +124,76 @@ module _ {s places order outs lists' spilled : List ℕ} {found : Found} (h : Pl
     slots-replayed : slots_by f t'.steps t'.progress.steps ≡ (planned f pointer).1.slots
     slots-replayed = ap (λ (p : Plan). p.slots) a.plan
 
-    steps-noted : t'.progress.steps ≤ length t'.steps
-    steps-noted = omega (arith, a.good.room_steps)
+    -- exactly the noted steps
+    abbrev own : List ℕ
+    own = take t'.progress.steps t'.steps
+
+    own-long : length own ≡ t'.progress.steps
+    own-long = length-take-le t'.progress.steps t'.steps (omega (arith, a.good.room_steps))
+
+    own-replayed : slots_by f own (length own) ≡ (planned f pointer).1.slots
+    unfolding slots_by noted
+    own-replayed = ap (λ (xs : List ℕ). replayed (size_of f) (map step_of xs) no_slots) (take-length own) ∙ slots-replayed
 
     -- REPLAYING can begin
     pub replay-lent :
-        (tags sizes : List ℕ) → length t'.steps ≤ largest_values + largest_records → Zeros tags → row_values ≤ length tags → row_values ≤ length sizes
-        → Lent s t'.steps t'.progress.steps (replicate 5 0) (replicate (largest_values + largest_records) 0) tags
-        × (t'.progress.steps ≤ largest_values + largest_records) × (row_values ≤ length sizes)
-    replay-lent tags sizes short blank l m =
+        (steps tags sizes : List ℕ) → steps ≡ t'.steps → length t'.steps ≤ largest_values + largest_records → Zeros tags → row_values ≤ length tags
+        → row_values ≤ length sizes
+        → Lent s (take t'.progress.steps steps) (length (take t'.progress.steps steps)) (replicate 5 0) (replicate (largest_values + largest_records) 0) tags
+        × (length (take t'.progress.steps steps) ≤ largest_values + largest_records) × (row_values ≤ length sizes)
+    replay-lent steps tags sizes e short blank l m =
         let tree = accepted-tree s h.accepted in
-        let older-long = length-replicate {A = ℕ} (largest_values + largest_records) 0 in (
+        let older-long = length-replicate {A = ℕ} (largest_values + largest_records) 0 in
+        let few : length own ≤ largest_values + largest_records = omega (arith, own-long, a.good.room_steps, short) in
+        rw e (
           record {
             in_order = is_true (ordered 0 (records s)) in-order;
-            in_steps = steps-noted;
-            room = record { heads = omega arith; older = omega (arith, steps-noted, short, older-long); tags = l };
+            in_steps = omega arith;
+            room = record { heads = omega arith; older = omega (arith, few, older-long); tags = l };
             empty_heads = zeros-zeros 5;
             empty_tags = blank;
-            fitting = planned-fitting f tree.in-file tree.some_block pointer t'.steps t'.progress.steps slots-replayed h.sized values-small;
+            fitting = planned-fitting f tree.in-file tree.some_block pointer own (length own) own-replayed h.sized values-small;
           },
-          omega (arith, steps-noted, short),
+          few,
           m,
         )
 
     -- THE WHOLE PLAN
     pub records-planned :
-        {older tags sizes : List ℕ} (r : ℕ) {heads' older' tags' sizes' : List ℕ}
-        → Replayed s t'.steps t'.progress.steps (replicate 5 0) older tags sizes r heads' older' tags' sizes' → row_values ≤ length sizes
-        → RecordsPlanned s places lists' found pointer numbers' tags' t'.sizes sizes'
+        {older tags sizes : List ℕ} (steps own_numbers new_sizes : List ℕ) (r : ℕ) {heads' older' tags' sizes' : List ℕ}
+        → steps ≡ t'.steps → own_numbers ≡ numbers' → new_sizes ≡ t'.sizes
+        → Replayed s (take t'.progress.steps steps) (length (take t'.progress.steps steps)) (replicate 5 0) older tags sizes r heads' older' tags' sizes'
+        → row_values ≤ length sizes
+        → RecordsPlanned s places lists' found pointer own_numbers tags' new_sizes sizes'
         (record { pointer = pointer; made = t'.progress.made; slots = r; blocks = t'.progress.blocks })
-    records-planned r g room =
-        record {
+    records-planned steps own_numbers new_sizes r e en es given room =
+        let g = rw e at given in
+        rw (en, es)
+        (record {
           pointed = refl;
           plan =
               record {
                 numbered = (accepted-is s h.accepted).readable.numbered;
                 listed_rows = h.listed-rows;
                 values = ap (λ (p : Plan). p.values) a.plan;
-                slots_made = g.slots ∙ ap (λ (x : StackSlots). x.made) slots-replayed;
-                slot_numbers = λ v. ap (or_else 0) (g.tagged v ∙ ap (λ (x : StackSlots). x.slot_of v) slots-replayed);
+                slots_made = g.slots ∙ ap (λ (x : StackSlots). x.made) own-replayed;
+                slot_numbers = λ v. ap (or_else 0) (g.tagged v ∙ ap (λ (x : StackSlots). x.slot_of v) own-replayed);
                 plans = a.blocks;
               };
           made-room = omega (arith, a.good.room_sizes);
           slots-room = omega (arith, g.few, g.sizes_long, room);
           slots-few = g.few;
           blocks-planned = ap (λ (p : Plan). p.blocks) a.plan;
-        }
+        })
 
 -- FROM WHAT IS FOUND to what can be planned, and from what is planned to what can be written.
 module _ {s places order index outs lists' spilled : List ℕ} {found : Found} {pointer : ℕ} (h : Spilling s places order index outs lists' spilled found pointer) where
-  pub plannable : Plannable s places order outs lists' spilled found
+  pub plannable : Plannable s places (take found.blocks.reachable order) outs lists' spilled found
   plannable =
       let r = h.rows-found in
       record {
         accepted = r.tables.accepted;
-        walked = r.tables.walked;
+        walked = walked-exact r.tables.walked;
         all-counted = r.tables.all-counted;
         outs-long = r.outs-long;
         live = r.live;

@@ -1,6 +1,6 @@
 -- What is planned of a file, as tables: what the count of its records and the writing of them stand on, and the answers that
 -- follow.
-use Rattle.std.specs.Prelude.{ℕ, zero, suc, ◌+◌, ◌-◌, ◌*◌, ◌^◌, ◌<◌, ◌≤◌, ◌≡◌, Bool, true, false, List, [], ◌++◌, get_or, take, drop, replicate, T}
+use Rattle.std.specs.Prelude.{ℕ, zero, suc, ◌+◌, ◌-◌, ◌*◌, ◌^◌, ◌<◌, ◌≤◌, ◌≡◌, Bool, true, false, List, [], ◌++◌, get_or, take, drop, replicate, T, is_ok, Ok, Err}
 use Rattle.std.proofs.Common.{sym, ap₂, ◌∙◌, arith}
 use Rattle.std.proofs.Math.Path.{ap}
 use Rattle.std.proofs.Math.ListN.{length, length-append}
@@ -14,12 +14,12 @@ use Rattle.rules.specs.File.{ordered, function_records, function_in}
 use Rattle.rules.specs.Graph.{reachable}
 use Rattle.rules.specs.Liveness.{process, lists}
 use Rattle.rules.specs.Refusals.{first_of, file_refusals, spilled_size}
-use Rattle.rules.specs.Services.{is_accepted, is_unchanged, records_of}
+use Rattle.rules.specs.Services.{is_unchanged, records_of}
 use Rattle.rules.specs.Slots.{no_slots}
 use Rattle.rules.specs.Plan.{Plan, planned}
 use Rattle.rules.specs.Rewriting.{rewritten}
 use Rattle.rules.specs.declared.Record.{Record}
-use Rattle.rules.specs.declared.Verdict.TheVariants as verdict
+use Rattle.rules.specs.declared.Refusal.TheVariants as refusal
 use Rattle.fixpoint.specs.Sums.{sum}
 use Rattle.agreement.specs.Growing.{Grown, nothing-kept, planned-costs, block_cost}
 use Rattle.demand3.specs.Totals.{plan_most, cost-few}
@@ -40,7 +40,7 @@ use Rattle.counting.specs.Totals.{block_added, records-counted}
 use Rattle.acceptance.specs.Survey.{accepted-is}
 use Rattle.rewriting.specs.declared.Found.{Found}
 use Rattle.rewriting.specs.declared.Planned.{Planned}
-use Rattle.rewriting.specs.Answers.{Outcome, too_short, outcome-short, outcome-accepted, verdict-short, verdict-fits, records-changed}
+use Rattle.rewriting.specs.Answers.{Outcome, outcome-short, outcome-accepted, verdict-short, verdict-fits, records-changed}
 use Rattle.rewriting.specs.Rows.{PointerFine}
 use Rattle.rewriting.specs.Trees.{accepted-tree}
 
@@ -50,7 +50,7 @@ counts_of places found p = record { values = get_or places 0 0; blocks = found.b
 
 -- an accepted file with its lists, and the tables of its plan
 pub record PlanFound (s places index lists' numbers slots new_sizes slot_sizes : List ℕ) (found : Found) (p : Planned) : Type 0 where
-  pub accepted : T (is_accepted (first_of (file_refusals s)))
+  pub accepted : T (is_ok (first_of (file_refusals s)))
   pub tables : IndexTables s places index
   pub all-counted : found.blocks.all ≡ length (function_in s).blocks
   pub lists-long : length lists' ≡ largest_instructions * row_words
@@ -167,7 +167,7 @@ module _ {s places index lists' numbers slots new_sizes slot_sizes : List ℕ} {
   room-needed count n c l = omega (arith, c, l, records-changed s pointer n h.changed, ap length written_is)
 
   -- 11
-  pub outcome-too-short : (count n : ℕ) → count ≡ records_of s pointer → n < record_bytes * count → Outcome s pointer n (too_short count) (replicate n 0)
+  pub outcome-too-short : (count n : ℕ) → count ≡ records_of s pointer → n < record_bytes * count → Outcome s pointer n (Err (refusal.TooShort count)) (replicate n 0)
   outcome-too-short count n c l =
       outcome-short s pointer n
       (verdict-short s pointer n h.pointer-fine h.accepted h.sized h.changed (omega (arith, c, l))) count c
@@ -182,15 +182,15 @@ module _ {s places index lists' numbers slots new_sizes slot_sizes : List ℕ} {
       (count n : ℕ) → count ≡ records_of s pointer → record_bytes * count ≤ n → {r : ℕ} {lent out : List ℕ} → lent ≡ replicate n 0
       → Wrote lent (function_run s places numbers slots (rows lists') new_sizes slot_sizes (counts_of places found p)) r out
       → Outcome s pointer n
+      (Ok
       (record {
-        verdict = verdict.Accepted;
         records = count;
         slots = p.slots;
         landings = p.blocks - found.blocks.all;
         visits = found.live.visits;
         pushes = found.live.pushes;
         unchanged = false;
-      })
+      }))
       out
   outcome-written count n c l {r} {lent} {out} blank w =
       let rs = function_records (rewritten f pointer) in
@@ -206,7 +206,6 @@ module _ {s places index lists' numbers slots new_sizes slot_sizes : List ℕ} {
       outcome-accepted s pointer n (verdict-fits s pointer n h.pointer-fine h.accepted h.sized h.changed (omega (arith, c, l))) _
       (λ i.
       record {
-        verdict = verdict.Accepted;
         records = c i;
         slots = made i;
         landings = landed i;

@@ -1,15 +1,14 @@
 -- The tree of an accepted file.
-use Rattle.std.specs.Prelude.{ℕ, List, T}
+use Rattle.std.specs.Prelude.{ℕ, List, T, is_ok}
 use Rattle.rules.specs.Records.{records}
 use Rattle.rules.specs.File.{function_in}
 use Rattle.rules.specs.Refusals.{first_of, file_refusals}
-use Rattle.rules.specs.Services.{is_accepted}
 use Rattle.walks.specs.InFile.{blocks-some}
 use Rattle.agreement.specs.Accepted.{Accepted}
 use Rattle.demand3.specs.Verdicts.{plain}
 use Rattle.acceptance.specs.Survey.{accepted-is}
 
-pub accepted-tree : (s : List ℕ) → T (is_accepted (first_of (file_refusals s))) → Accepted (function_in s)
+pub accepted-tree : (s : List ℕ) → T (is_ok (first_of (file_refusals s))) → Accepted (function_in s)
 accepted-tree s passes =
     let a = accepted-is s passes in
     record {

@@ -1,90 +1,86 @@
 // What is planned, counted and then written, or refused where it does not fit.
 ghost use Rattle.std.specs.Prelude.{◌≡◌, ◌<◌, ◌^◌, length, replicate};
+ghost use Rattle.rules.specs.Records.{IsBytes, record_count};
 ghost use Rattle.rules.specs.Services.{records_of};
-ghost use Rattle.listing.specs.Firsts.{Firsts};
 ghost use Rattle.rewriting.specs.Answers.{Outcome};
 ghost use Rattle.rewriting.specs.Plans.{PlanFound};
 
-use crate::{Found, Planned};
+use crate::{Found, Planned, PlannedTables};
 use counting::{count_added, count_entries};
 use layout::whole::{Counts, write_function};
-use rules::{RECORD_BYTES, RewritingAnswer, Verdict};
+use listing::indexed::{Indexed, Numbered};
+use rules::{RECORD_BYTES, Refusal, RewritingAnswer};
+use writing::plan::Plan;
+
+// How many records a file has, whose items are bytes: that they are is known of a slice that is handed over, and not of a field.
+fn own_records(s: &[u8]) -> usize
+    ensures count { result ≡ record_count s.now }
+    ensures bytes { IsBytes s.now }
+{
+    s.len() / RECORD_BYTES
+}
 
 // How many records there will be: the file's, a value and a slot for each that is made, what is added to each block, and
 // the map entries.
 fn count_records(
-    s: &[u8],
-    places: &[usize],
-    index: &[usize],
+    indexed: Indexed<'_>,
     lists: &[u64],
-    numbers: &[u32],
-    slots: &[u32],
-    new_sizes: &[u32],
-    slot_sizes: &[u32],
+    tables: PlannedTables<'_>,
     found: Found,
     planned: Planned,
 ) -> usize
-    requires { PlanFound s.now places.now index.now lists.now numbers.now slots.now new_sizes.now slot_sizes.now found planned }
-    ensures { (result ≡ records_of s.now planned.pointer) × (result < 2 ^ 20) }
+    requires { PlanFound indexed.blocks.file.bytes.now indexed.blocks.places.now indexed.index.now lists.now tables.numbers.now tables.slots.now tables.new_sizes.now tables.slot_sizes.now found planned }
+    ensures { (result ≡ records_of indexed.entry.blocks.file.bytes.now planned.pointer) × (result < 2 ^ 20) }
 {
-    let blocks = found.blocks;
-    let all = blocks.all;
-    let added = count_added(s, places, all, index, numbers);
+    let own = own_records(indexed.blocks.file.bytes);
+    let added = count_added(indexed, tables.numbers);
     let entries = count_entries(lists, found.instructions);
-    s.len() / RECORD_BYTES + planned.made + planned.slots + added + entries
+    own + planned.made + planned.slots + added + entries
 }
 
 // The answer, with the records at the front of a cleared output; or 11, with their count, where they do not fit.
-pub fn write_planned(
-    s: &[u8],
-    places: &[usize],
-    index: &[usize],
-    firsts: &[usize],
-    lists: &[u64],
-    numbers: &[u32],
-    slots: &[u32],
-    new_sizes: &[u32],
-    slot_sizes: &[u32],
+pub fn write_planned<'a>(
+    numbered: Numbered<'a>,
+    lists: &'a [u64],
+    tables: PlannedTables<'a>,
     found: Found,
     planned: Planned,
     out: &mut [u8],
-) -> RewritingAnswer
-    requires { PlanFound s.now places.now index.now lists.now numbers.now slots.now new_sizes.now slot_sizes.now found planned × (out.old ≡ replicate (length out.old) 0) × Firsts s.now firsts.now }
-    ensures { Outcome s.now planned.pointer (length out.old) result out.new }
+) -> Result<RewritingAnswer, Refusal>
+    requires { PlanFound numbered.indexed.blocks.file.bytes.now numbered.indexed.blocks.places.now numbered.indexed.index.now lists.now tables.numbers.now tables.slots.now tables.new_sizes.now tables.slot_sizes.now found planned × (out.old ≡ replicate (length out.old) 0) }
+    ensures { Outcome numbered.entry.indexed.blocks.file.bytes.now planned.pointer (length out.old) result out.new }
 {
-    let records = count_records(
-        s, places, index, lists, numbers, slots, new_sizes, slot_sizes, found, planned,
-    );
+    let blocks = numbered.indexed.blocks;
+    let records = count_records(numbered.indexed, lists, tables, found, planned);
     if out.len() < RECORD_BYTES * records {
-        return RewritingAnswer {
-            verdict: Verdict::TooShort,
-            records: records as u32,
-            slots: 0,
-            landings: 0,
-            visits: 0,
-            pushes: 0,
-            unchanged: false,
-        };
+        return Err(Refusal::TooShort(records as u32));
     }
-    let blocks = found.blocks;
-    let all = blocks.all;
     let counts = Counts {
-        values: places[0],
-        blocks: all,
+        values: blocks.values(),
+        blocks: found.blocks.all,
         made: planned.made,
         slots: planned.slots,
     };
+    let plan = Plan {
+        file: blocks.file,
+        numbers: tables.numbers,
+        slots: tables.slots,
+    };
     write_function(
-        s, places, index, firsts, numbers, slots, lists, new_sizes, slot_sizes, counts, out,
+        numbered,
+        plan,
+        lists,
+        tables.new_sizes,
+        tables.slot_sizes,
+        counts,
+        out,
     );
-    let live = found.live;
-    RewritingAnswer {
-        verdict: Verdict::Accepted,
+    Ok(RewritingAnswer {
         records: records as u32,
         slots: planned.slots as u32,
-        landings: (planned.blocks - all) as u32,
-        visits: live.visits,
-        pushes: live.pushes,
+        landings: (planned.blocks - found.blocks.all) as u32,
+        visits: found.live.visits,
+        pushes: found.live.pushes,
         unchanged: false,
-    }
+    })
 }

@@ -2,22 +2,20 @@
 ghost use Rattle.listing.specs.Firsts.{Firsts};
 ghost use Rattle.rewriting.specs.Planning.{Plannable, PlanLent, RecordsPlanned};
 
-use crate::{Found, Planned};
-use planner::functions::{FunctionSize, plan_function};
+use crate::{Found, FoundRows, Planned};
+use graph::blocks::Reachable;
+use planner::functions::plan_function;
+use planning::SafepointSpiller;
 use rules::{LARGEST_RECORDS, LARGEST_VALUES, ROW_WORDS};
 use slots::SlotSize;
 use stackslots::replaying::replay;
 
 // Plans the file over lent tables of zeros: the numbers beside its records, the slot of each value, and the sizes of new
-// values and of slots.
+// values and of slots. The four are lent one by one: a struct of them would have to say that it still holds the same ones.
 pub fn plan_records(
-    s: &[u8],
-    places: &[usize],
-    order: &[usize],
+    reachable: Reachable<'_>,
     firsts: &[usize],
-    outs: &[u64],
-    lists: &[u64],
-    spilled: &[u64],
+    rows: FoundRows<'_>,
     found: Found,
     pointer: u32,
     numbers: &mut [u32],
@@ -25,32 +23,49 @@ pub fn plan_records(
     new_sizes: &mut [u32],
     slot_sizes: &mut [u32],
 ) -> Planned
-    requires { Plannable s.now places.now order.now outs.now lists.now spilled.now found × PlanLent numbers.old slots.old new_sizes.old slot_sizes.old × Firsts s.now firsts.now }
-    ensures { RecordsPlanned s.now places.now lists.now found pointer numbers.new slots.new new_sizes.new slot_sizes.new result }
+    requires { Plannable reachable.blocks.file.bytes.now reachable.blocks.places.now reachable.order.now rows.outs.now rows.lists.now rows.spilled.now found × PlanLent numbers.old slots.old new_sizes.old slot_sizes.old × Firsts reachable.blocks.file.bytes.now firsts.now }
+    ensures { RecordsPlanned reachable.entry.blocks.file.bytes.now reachable.entry.blocks.places.now rows.entry.lists.now found pointer numbers.new slots.new new_sizes.new slot_sizes.new result }
 {
     let mut asked: [u64; ROW_WORDS] = [0; ROW_WORDS];
     let mut steps: [u32; LARGEST_VALUES + LARGEST_RECORDS] = [0; LARGEST_VALUES + LARGEST_RECORDS];
     let mut heads: [usize; SlotSize::LEN] = [0; SlotSize::LEN];
     let mut older: [usize; LARGEST_VALUES + LARGEST_RECORDS] = [0; LARGEST_VALUES
         + LARGEST_RECORDS];
-    let blocks = found.blocks;
-    let size = FunctionSize {
-        pointer,
-        values: places[0],
-        blocks: blocks.all,
-        reachable: blocks.reachable,
-    };
-    let p = plan_function(
-        s, places, order, firsts, spilled, lists, outs, size, &mut asked, &mut steps, new_sizes,
+    let blocks = reachable.blocks;
+    let mut spiller = SafepointSpiller {
+        asked: &mut asked,
+        steps: &mut steps,
+        sizes: new_sizes,
         numbers,
+        pointer,
+        given: blocks.values(),
+        made: 0,
+        blocks: blocks.count,
+        noted: 0,
+    };
+    plan_function(
+        &mut spiller,
+        reachable,
+        firsts,
+        rows.spilled,
+        rows.lists,
+        rows.outs,
     );
-    let made = replay(
-        s, &steps, p.steps, &mut heads, &mut older, slots, slot_sizes,
+    let made = spiller.made;
+    let landed = spiller.blocks;
+    let noted = spiller.noted;
+    let slots = replay(
+        blocks.file,
+        &steps[..noted],
+        &mut heads,
+        &mut older,
+        slots,
+        slot_sizes,
     );
     Planned {
         pointer,
-        made: p.made,
-        slots: made,
-        blocks: p.blocks,
+        made,
+        slots,
+        blocks: landed,
     }
 }

@@ -1,11 +1,11 @@
 -- A row written word by word, and one word of it changed at a bit.
-use Prim.Native.Nat.{ℕ, ◌+◌, ◌*◌, ◌/◌, ◌%◌, ◌^◌, ◌<◌, ◌≤◌}
+use Prim.Native.Nat.{ℕ, ◌+◌, ◌-◌, ◌*◌, ◌/◌, ◌%◌, ◌^◌, ◌<◌, ◌≤◌}
 use native.Mathlib.Omega.{arith}
-use mathlib.Core.Path.{◌≡◌, refl, sym, ap, subst, ◌∙◌}
+use mathlib.Core.Path.{◌≡◌, refl, sym, ap, ap₂, subst, ◌∙◌}
 use mathlib.Core.Logic.{◌≢◌}
-use mathlib.Core.Bool.{Bool, true, false, ◌||◌, or-false, cond}
+use mathlib.Core.Bool.{Bool, true, false, not, ◌&&◌, ◌||◌, or-false, cond}
 use mathlib.Core.List.{List, [], ◌∷◌}
-use lib.Bits.{bit_or}
+use lib.Bits.{bit_and, bit_or}
 use lib.ListN.{length, get_or, set, length-set}
 use lib.Seq.{get_or-set_same, get_or-set_other}
 use lib.Dec.{eqb, eqb→eq}
@@ -14,32 +14,25 @@ use borrow.Author.Tests.{ne_eqb}
 use Rattle.rules.specs.Limits.{row_words}
 use Rattle.rules.specs.Lists.{update, NumberSet, adding}
 use Rattle.lists.specs.Tests.{test-elim, T-ext, eq→eqb, neqb→ne}
-use Rattle.rows.specs.Bits.{bit_at, bit-or, bit-zero, bit-inserted}
+use Rattle.rows.specs.Bits.{bit_at, bit-and, bit-or, bit_not, bit-zero, bit-inserted}
 use Rattle.rows.specs.Rows.{row_values, rows, HasRow, rows-bit, rows-far, rows_ext, rows-changed}
+use Rattle.rows.specs.Written.{Written}
 
--- THE LOOP over a row. Its first k words are those of the set; all other words are as they were.
-pub record Filled (d : List ℕ) (row k : ℕ) (s : NumberSet) (e : List ℕ) : Type 0 where
-  pub long : length e ≡ length d
-  pub done : (j : ℕ) → j < k → (i : ℕ) → i < 64 → bit_at (get_or e (row_words * row + j) 0) i ≡ s (64 * j + i)
-  pub below : (i : ℕ) → i < row_words * row → get_or e i 0 ≡ get_or d i 0
-  pub above : (i : ℕ) → row_words * row + k ≤ i → get_or e i 0 ≡ get_or d i 0
+-- THE LOOP over a row: at first no word is written,
+pub written_none : (post : ℕ → ℕ → ℕ → Type 0) (row : ℕ) (d : List ℕ) → Written post row 0 d d
+written_none post row d = record { long = refl; made = λ k l. absurd (omega arith); below = λ i l. refl; above = λ i l. refl }
 
--- at first no word is
-pub filled_none : (d : List ℕ) (row : ℕ) (s : NumberSet) → Filled d row 0 s d
-filled_none d row s =
-    record { long = refl; done = λ j l. absurd (omega arith); below = λ i l. refl; above = λ i l. refl }
-
--- then one more, whose bits are the set's
-pub filled_more :
-    (d : List ℕ) (row k : ℕ) (s : NumberSet) (e : List ℕ) (x : ℕ) → Filled d row k s e → row_words * row + k < length e
-    → ((i : ℕ) → i < 64 → bit_at x i ≡ s (64 * k + i)) → Filled d row (k + 1) s (set e (row_words * row + k) x)
-filled_more d row k s e x h room bits =
+-- then one more, by a call that got it as it was
+pub written_more :
+    (post : ℕ → ℕ → ℕ → Type 0) (row k : ℕ) (d e : List ℕ) (x : ℕ) → Written post row k d e → row_words * row + k < length e
+    → post (get_or e (row_words * row + k) 0) k x → Written post row (k + 1) d (set e (row_words * row + k) x)
+written_more post row k d e x h room made =
     record {
       long = length-set e at x ∙ h.long;
-      done =
-          below_more (λ j. (i : ℕ) → i < 64 → bit_at (get_or (set e at x) (row_words * row + j) 0) i ≡ s (64 * j + i)) k
-          (λ j l i m. ap (λ w. bit_at w i) (get_or-set_other e at (row_words * row + j) x 0 (λ q. omega arith)) ∙ h.done j l i m)
-          (λ i m. ap (λ w. bit_at w i) (get_or-set_same e at x 0 room) ∙ bits i m);
+      made =
+          below_more (λ j. post (get_or d (row_words * row + j) 0) j (get_or (set e at x) (row_words * row + j) 0)) k
+          (λ j l. subst (λ (w : ℕ). post (get_or d (row_words * row + j) 0) j w) (sym (get_or-set_other e at (row_words * row + j) x 0 (λ q. omega arith))) (h.made j l))
+          (subst (λ (w : ℕ). post (get_or d at 0) k w) (sym (get_or-set_same e at x 0 room)) (subst (λ (w : ℕ). post w k x) (h.above at (omega arith)) made));
       below = λ i l. get_or-set_other e at i x 0 (λ q. omega arith) ∙ h.below i l;
       above = λ i l. get_or-set_other e at i x 0 (λ q. omega arith) ∙ h.above i (omega arith);
     }
@@ -47,19 +40,26 @@ filled_more d row k s e x h room bits =
     at : ℕ
     at = row_words * row + k
 
--- and in the end the row is the set, if that has no value beyond it.
-pub filled-all :
-    (d : List ℕ) (row : ℕ) (s : NumberSet) (e : List ℕ) → Filled d row row_words s e
+-- In the end the row is a set that has no value beyond it, if each call made a word of that set.
+pub rows-written :
+    (post : ℕ → ℕ → ℕ → Type 0) (row : ℕ) (d e : List ℕ) (s : NumberSet) → Written post row row_words d e
+    → ((k x y : ℕ) → k < row_words → post x k y → ((i : ℕ) → i < 64 → bit_at x i ≡ rows d row (64 * k + i)) → (i : ℕ) → i < 64 → bit_at y i ≡ s (64 * k + i))
     → ((v : ℕ) → row_values ≤ v → s v ≡ false) → rows e ≡ update row s (rows d)
-filled-all d row s e h beyond =
-    rows-changed d e row s h.below h.above (rows_ext e row s (λ k i l m. h.done k l i m) beyond)
+rows-written post row d e s h word beyond =
+    rows-changed d e row s h.below h.above
+    (rows_ext e row s (λ k i l m. word k _ _ l (h.made k l) (λ j o. sym (rows-bit d row k j l o)) i m) beyond)
 
--- a word that is still to be written has the bits of the row as it was
-pub filled-left :
-    (d : List ℕ) (row k : ℕ) (s : NumberSet) (e : List ℕ) → Filled d row k s e → k < row_words → (i : ℕ) → i < 64
-    → bit_at (get_or e (row_words * row + k) 0) i ≡ rows d row (64 * k + i)
-filled-left d row k s e h l i m =
-    ap (λ w. bit_at w i) (h.above (row_words * row + k) (omega arith)) ∙ sym (rows-bit d row k i l m)
+-- A word without the bits of another has those of the one set that are not of the other,
+pub word-minus :
+    (y x z i : ℕ) (p q : Bool) → y ≡ bit_and x (2 ^ 64 - 1 - z) → z < 2 ^ 64 → i < 64 → bit_at x i ≡ p → bit_at z i ≡ q
+    → bit_at y i ≡ p && not q
+word-minus y x z i p q e fits l has lacks =
+    ap (λ w. bit_at w i) e ∙ bit-and i x _ ∙ ap₂ (λ a b. a && b) has (bit_not 64 i z l fits ∙ ap not lacks)
+
+-- and one with those of another has those of both.
+pub word-union :
+    (y x z i : ℕ) (p q : Bool) → y ≡ bit_or x z → bit_at x i ≡ p → bit_at z i ≡ q → bit_at y i ≡ p || q
+word-union y x z i p q e has gets = ap (λ w. bit_at w i) e ∙ bit-or i x z ∙ ap₂ (λ a b. a || b) has gets
 
 -- ONE BIT of a word is changed: what the change makes of the bit of v, it makes of v in the row's set.
 module _ (change : Bool → Bool → Bool) (kept : (b : Bool) → change false b ≡ b) where

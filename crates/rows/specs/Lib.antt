@@ -3,3 +3,4 @@ pub mod Words
 pub mod Rows
 pub mod Tables
 pub mod Passed
+pub mod Written

@@ -7,13 +7,14 @@ ghost use Rattle.rules.specs.Limits.{row_words};
 ghost use Rattle.rules.specs.Lists.{update, union, adding, removing};
 ghost use Rattle.rows.specs.Bits.{bit_at};
 ghost use Rattle.rows.specs.Rows.{rows, row_values, HasRow, by_rule, size, minus};
+ghost use Rattle.rows.specs.Written.{Written};
 
 use rules::ROW_WORDS;
 
 // The bits of a word, and of a row.
 pub const WORD_BITS: usize = 64;
 
-const ROW_VALUES: usize = WORD_BITS * ROW_WORDS;
+pub const ROW_VALUES: usize = WORD_BITS * ROW_WORDS;
 
 // Whether the bit of a value is set in a word.
 pub fn has_bit(word: u64, v: usize) -> bool
@@ -43,17 +44,7 @@ pub fn insert(t: &mut [u64], row: usize, v: usize)
     ensures { rows t.new ≡ update row (adding (v ∷ []) (rows t.old row)) (rows t.old) }
 {
     let i = ROW_WORDS * row + v / WORD_BITS;
-    t[i] = t[i] | bit_of(v);
-}
-
-// The word in which only the bit of a value is set, if that is wanted, else none.
-fn bit_if(v: usize, wanted: bool) -> u64
-    ensures { result ≡ cond wanted (2 ^ (v % 64)) 0 }
-{
-    if wanted {
-        return bit_of(v);
-    }
-    0
+    t[i] |= bit_of(v);
 }
 
 // A row gets a value if that is wanted. A word is stored in any case, so that no branch hangs on what is wanted; so the place of
@@ -63,7 +54,7 @@ pub fn insert_if(t: &mut [u64], row: usize, v: usize, wanted: bool)
     ensures { rows t.new ≡ update row (adding (cond wanted (v ∷ []) []) (rows t.old row)) (rows t.old) }
 {
     let i = ROW_WORDS * row + v / WORD_BITS % ROW_WORDS;
-    t[i] = t[i] | bit_if(v, wanted);
+    t[i] |= u64::from(wanted) << (v % WORD_BITS);
 }
 
 // A row loses a value.
@@ -72,7 +63,19 @@ pub fn remove(t: &mut [u64], row: usize, v: usize)
     ensures { rows t.new ≡ update row (removing (v ∷ []) (rows t.old row)) (rows t.old) }
 {
     let i = ROW_WORDS * row + v / WORD_BITS;
-    t[i] = t[i] & !bit_of(v);
+    t[i] &= !bit_of(v);
+}
+
+// A row is written word by word: word k becomes what `word` makes of it and k.
+fn write_row<F: Fn(u64, usize) -> u64>(t: &mut [u64], row: usize, word: F)
+    requires room { HasRow t.old row }
+    requires callable { (k x : ℕ) → k < row_words → x < 2 ^ 64 → F.pre word x k }
+    ensures { Written (F.post word) row row_words t.old t.new }
+{
+    let at = ROW_WORDS * row;
+    for k in 0..ROW_WORDS {
+        t[at + k] = word(t[at + k], k);
+    }
 }
 
 // A row gets what a row of another table has.
@@ -80,13 +83,7 @@ pub fn join(to: &mut [u64], row: usize, from: &[u64], other: usize)
     requires { HasRow to.old row × HasRow from.now other }
     ensures { rows to.new ≡ update row (union (rows to.old row) (rows from.now other)) (rows to.old) }
 {
-    let at = ROW_WORDS * row;
-    let source = ROW_WORDS * other;
-    let mut k = 0;
-    while k < ROW_WORDS {
-        to[at + k] = to[at + k] | from[source + k];
-        k += 1;
-    }
+    write_row(to, row, |word, k| word | word_of(from, other, k));
 }
 
 // A row becomes what a row of another table is.
@@ -94,20 +91,7 @@ pub fn copy_row(to: &mut [u64], row: usize, from: &[u64], other: usize)
     requires { HasRow to.old row × HasRow from.now other }
     ensures { rows to.new ≡ update row (rows from.now other) (rows to.old) }
 {
-    let at = ROW_WORDS * row;
-    let source = ROW_WORDS * other;
-    let mut k = 0;
-    while k < ROW_WORDS {
-        to[at + k] = from[source + k];
-        k += 1;
-    }
-}
-
-// A word's bits without those of another.
-fn word_without(a: u64, b: u64) -> u64
-    ensures { (i : ℕ) → i < 64 → bit_at result i ≡ (bit_at a i && not (bit_at b i)) }
-{
-    a & !b
+    write_row(to, row, |_, k| word_of(from, other, k));
 }
 
 // A row becomes what a row of another table is, without what a row of a third one has.
@@ -122,58 +106,39 @@ pub fn copy_without(
     requires { HasRow to.old row × HasRow from.now other × HasRow less.now third }
     ensures { rows to.new ≡ update row (minus (rows from.now other) (rows less.now third)) (rows to.old) }
 {
-    let at = ROW_WORDS * row;
-    let source = ROW_WORDS * other;
-    let taken = ROW_WORDS * third;
-    let mut k = 0;
-    while k < ROW_WORDS {
-        to[at + k] = word_without(from[source + k], less[taken + k]);
-        k += 1;
-    }
+    write_row(
+        to,
+        row,
+        |_, k| word_of(from, other, k) & !word_of(less, third, k),
+    );
 }
 
-// A word of live-in with what the block's rule adds: its uses, and of live-out what the block does not kill.
-fn word_through(ins: u64, outs: u64, uses: u64, kills: u64) -> u64
-    ensures { (i : ℕ) → i < 64 → bit_at result i ≡ (bit_at ins i || (bit_at uses i || (bit_at outs i && not (bit_at kills i)))) }
-{
-    ins | (uses | outs & !kills)
-}
-
-// A block's row of live-in gets what its rule gives from its row of live-out.
+// A block's row of live-in gets what its rule gives from its row of live-out: its uses, and of live-out what the block does not kill.
 pub fn transfer(ins: &mut [u64], row: usize, outs: &[u64], uses: &[u64], kills: &[u64])
     requires { HasRow ins.old row × HasRow outs.now row × HasRow uses.now row × HasRow kills.now row }
     ensures { rows ins.new ≡ update row (union (rows ins.old row) (by_rule (rows uses.now row) (rows kills.now row) (rows outs.now row))) (rows ins.old) }
 {
-    let at = ROW_WORDS * row;
-    let mut k = 0;
-    while k < ROW_WORDS {
-        let i = at + k;
-        ins[i] = word_through(ins[i], outs[i], uses[i], kills[i]);
-        k += 1;
-    }
+    write_row(ins, row, |word, k| {
+        word | (word_of(uses, row, k) | word_of(outs, row, k) & !word_of(kills, row, k))
+    });
 }
 
-// How many values a row has: the Rust's `len()` of a set.
+// How many values a row has: the Rust's `len()` of a set. A sum of ones, since `filter(..).count()` branches at each value, and took
+// seven times as long.
 pub fn count(t: &[u64], row: usize) -> usize
     requires { HasRow t.now row }
     ensures { result ≡ size (rows t.now row) }
 {
-    let mut found: usize = 0;
-    let mut v = 0;
-    while v < ROW_VALUES {
-        if contains(t, row, v) {
-            found += 1;
-        }
-        v += 1;
-    }
-    found
+    (0..ROW_VALUES)
+        .map(|v| usize::from(contains(t, row, v)))
+        .sum()
 }
 
 // How many bits of a word stand below its lowest one, 64 for the word that has none.
 pub fn zeros_below(word: u64) -> usize
     ensures { (result ≤ 64) × ((i : ℕ) → i < result → bit_at word i ≡ false) × (result < 64 → bit_at word result ≡ true) }
 {
-    u64::trailing_zeros(word) as usize
+    word.trailing_zeros() as usize
 }
 
 // A word without its lowest one.
@@ -197,26 +162,13 @@ pub fn is_empty(t: &[u64], row: usize) -> bool
     requires { HasRow t.now row }
     ensures { result ≡ eqb (size (rows t.now row)) 0 }
 {
-    let mut together: u64 = 0;
-    let mut k = 0;
-    while k < ROW_WORDS {
-        together = together | word_of(t, row, k);
-        k += 1;
-    }
-    zeros_below(together) == WORD_BITS
+    let at = ROW_WORDS * row;
+    let words = &t[at..at + ROW_WORDS];
+    words.iter().fold(0, |together, word| together | word) == 0
 }
 
-// The lesser of two numbers.
-pub fn least(a: usize, b: usize) -> usize
-    ensures { result ≡ min a b }
-{
-    if a < b {
-        return a;
-    }
-    b
-}
-
-// The first value from v on and below end that a row has, end where there is none. A word without one is passed over whole.
+// The first value from v on and below end that a row has, end where there is none. A word without one is passed over whole:
+// a `while`, since a `find` over the values would look at each bit, and a `for` over the words needs a case for the first of them.
 pub fn next_in(t: &[u64], row: usize, v: usize, end: usize) -> usize
     requires { HasRow t.now row × (v ≤ end) × (end ≤ row_values) }
     ensures { (v ≤ result) × (result ≤ end) × ((u : ℕ) → v ≤ u → u < result → rows t.now row u ≡ false) × (result < end → rows t.now row result ≡ true) }
@@ -226,7 +178,7 @@ pub fn next_in(t: &[u64], row: usize, v: usize, end: usize) -> usize
         let bit = at % WORD_BITS;
         let skipped = zeros_below(t[ROW_WORDS * row + at / WORD_BITS] >> bit);
         if bit + skipped < WORD_BITS {
-            return least(at + skipped, end);
+            return (at + skipped).min(end);
         }
         at += WORD_BITS - bit;
     }

@@ -1,12 +1,12 @@
 -- Demand 3 as one statement about bytes, and its premise: domination, by paths.
-use Rattle.std.specs.Prelude.{ℕ, ◌≡◌, Bool, true, T}
+use Rattle.std.specs.Prelude.{ℕ, ◌≡◌, Bool, true, T, is_ok}
 use mathlib.Core.List.{List, [], ◌∷◌, ◌++◌, Memᴰ}
 use Rattle.rules.specs.Lists.{concat_map, nothing}
 use Rattle.rules.specs.Tree.{Instruction, Function}
 use Rattle.rules.specs.Records.{IsBytes}
 use Rattle.rules.specs.File.{function_in}
 use Rattle.rules.specs.Graph.{block_at, is_marked, instructions_of, values_passed, successors}
-use Rattle.rules.specs.Services.{is_accepted, rewriting_answer, rewriting_output, final_records}
+use Rattle.rules.specs.Services.{rewriting_answer, rewriting_output, final_records}
 use Rattle.rules.specs.TwoRuns.{World, Mover, trace}
 
 -- a path from block 0 to a block, with the blocks passed before it, last first
@@ -48,7 +48,7 @@ final_file s pointer n = final_records (rewriting_answer s pointer n) s (rewriti
 -- only the listed slots move, are seen to do the same.
 unfoldable pub Demand3 : Type 0
 Demand3 =
-    (s : List ℕ) (pointer n : ℕ) → IsBytes s → T (is_accepted (rewriting_answer s pointer n).verdict) → Dominated (function_in s)
+    (s : List ℕ) (pointer n : ℕ) → IsBytes s → T (is_ok (rewriting_answer s pointer n)) → Dominated (function_in s)
     → (world : World) (mover : Mover) (words words' slots slots' : ℕ → ℕ) (steps : ℕ)
     → trace (function_in s) every_instruction (is_marked (function_in s)) world mover words slots steps
     ≡ trace (function_in (final_file s pointer n)) every_instruction nothing world mover words' slots' steps

@@ -1,5 +1,5 @@
 -- Why a call says no. A service goes down a list of refusals, lowest number first, and gives the first that applies.
-use Rattle.std.specs.Prelude.{ℕ, suc, ◌%◌, Bool, true, false, not, ◌&&◌, ◌||◌, cond, List, [], ◌∷◌, ◌++◌, length, ltb, eqb}
+use Rattle.std.specs.Prelude.{ℕ, suc, ◌%◌, Bool, true, false, not, ◌&&◌, ◌||◌, cond, List, [], ◌∷◌, ◌++◌, length, ltb, eqb, Result, Ok, Err}
 use Rattle.rules.specs.Lists.{all, any, count, empty, concat_map, has, up_from, members}
 use Rattle.rules.specs.Tree.{Edge, Instruction, Block, Function}
 use Rattle.rules.specs.Limits.{record_bytes, largest_records, largest_values, largest_blocks, largest_instructions, largest_edges}
@@ -9,37 +9,41 @@ use Rattle.rules.specs.Graph.{block_at, size_of, is_marked, instructions_of, val
 use Rattle.rules.specs.Liveness.{is_spilled}
 use Rattle.rules.specs.declared.EdgeArgument.{EdgeArgument}
 use Rattle.rules.specs.declared.EdgeArgument.TheVariants as passes
-use Rattle.rules.specs.declared.Verdict.{Verdict}
-use Rattle.rules.specs.declared.Verdict.TheVariants as verdict
+use Rattle.rules.specs.declared.Refusal.{Refusal}
+use Rattle.rules.specs.declared.Refusal.TheVariants as refusal
 
--- document 01's number of a verdict, 0 where the call is answered
-abbrev pub refusal_number : Verdict → ℕ
-refusal_number verdict.Accepted = 0
-refusal_number verdict.PointerSize = 1
-refusal_number verdict.Length = 2
-refusal_number verdict.TooMany = 3
-refusal_number verdict.Malformed = 4
-refusal_number verdict.NotInFile = 5
-refusal_number verdict.NotDefinedOnce = 6
-refusal_number verdict.Unsound = 7
-refusal_number verdict.MarkedContext = 8
-refusal_number verdict.SlotSize = 9
-refusal_number verdict.NoSafepoint = 10
-refusal_number verdict.TooShort = 11
+-- document 01's number of a refusal
+abbrev pub refusal_number : Refusal → ℕ
+refusal_number refusal.PointerSize = 1
+refusal_number refusal.Length = 2
+refusal_number refusal.TooMany = 3
+refusal_number refusal.Malformed = 4
+refusal_number refusal.NotInFile = 5
+refusal_number refusal.NotDefinedOnce = 6
+refusal_number refusal.Unsound = 7
+refusal_number refusal.MarkedContext = 8
+refusal_number refusal.SlotSize = 9
+refusal_number refusal.NoSafepoint = 10
+refusal_number (refusal.TooShort _) = 11
 
--- a refusal, and whether it applies
-pub record Refusal : Type 0 where
-  pub why : Verdict
+-- the length needed, which 11 tells
+abbrev pub needed : Refusal → ℕ
+needed (refusal.TooShort n) = n
+needed _ = 0
+
+-- a ground to refuse a call, and whether it applies
+pub record Ground : Type 0 where
+  pub why : Refusal
   pub applies : Bool
 
 infix 20 ◌when◌
-abbrev pub ◌when◌ : Verdict → Bool → Refusal
+abbrev pub ◌when◌ : Refusal → Bool → Ground
 ◌when◌ why applies = record { why = why; applies = applies }
 
--- the first refusal of a list that applies
-abbrev pub first_of : List Refusal → Verdict
-first_of [] = verdict.Accepted
-first_of (r ∷ rs) = elim r.applies [ true ↦ r.why | false ↦ first_of rs ]
+-- a call is refused by the first ground of a list that applies
+abbrev pub first_of : List Ground → Result Unit Refusal
+first_of [] = Ok tt
+first_of (g ∷ gs) = elim g.applies [ true ↦ Err g.why | false ↦ first_of gs ]
 
 -- 3: more records than the largest count, of all or of a kind, ordered or not
 abbrev pub too_many : List ℕ → Bool
@@ -127,13 +131,13 @@ abbrev pub spilled_size : Function → Bool
 spilled_size f = any (λ v. not (has (size_of f v) slot_sizes)) (members (length f.values) (is_spilled f))
 
 -- what every service refuses of a file, 2 to 8
-unfoldable pub file_refusals : List ℕ → List Refusal
+unfoldable pub file_refusals : List ℕ → List Ground
 file_refusals s =
-    (verdict.Length when not (eqb (length s % record_bytes) 0))
-    ∷ (verdict.TooMany when too_many s)
-    ∷ (verdict.Malformed when not (ordered 0 (records s) && numbered_from 0 (function_in s).blocks))
-    ∷ (verdict.NotInFile when not (numbers_in_file (function_in s)))
-    ∷ (verdict.NotDefinedOnce when not (defined_once (function_in s)))
-    ∷ (verdict.Unsound when not (sound (function_in s)))
-    ∷ (verdict.MarkedContext when marked_context (function_in s))
+    (refusal.Length when not (eqb (length s % record_bytes) 0))
+    ∷ (refusal.TooMany when too_many s)
+    ∷ (refusal.Malformed when not (ordered 0 (records s) && numbered_from 0 (function_in s).blocks))
+    ∷ (refusal.NotInFile when not (numbers_in_file (function_in s)))
+    ∷ (refusal.NotDefinedOnce when not (defined_once (function_in s)))
+    ∷ (refusal.Unsound when not (sound (function_in s)))
+    ∷ (refusal.MarkedContext when marked_context (function_in s))
     ∷ []

@@ -1,20 +1,19 @@
 -- The sheets from the bench: files, what is asked of them, and what document 01 says; one table and one claim. Rows P1 to
 -- P11 are document 01's; the others pin what those leave open.
-use Rattle.std.specs.Prelude.{ℕ, ◌+◌, ◌*◌, ◌/◌, ◌≡◌, refl, true, List, [], ◌∷◌, ◌++◌, map, reverse, length, get_or, replicate, eqb}
+use Rattle.std.specs.Prelude.{ℕ, ◌+◌, ◌*◌, ◌/◌, ◌≡◌, refl, true, List, [], ◌∷◌, ◌++◌, map, reverse, length, get_or, replicate, eqb, Result, Ok, Err}
 use Rattle.rules.specs.Lists.{keep, or_else, foldl, up_from}
 use Rattle.rules.specs.Records.{word_at, bit, decode, record_at, records, first_words, bytes}
 use Rattle.rules.specs.File.{followers, follows, function, function_records, function_in}
 use Rattle.rules.specs.Graph.{reachable}
 use Rattle.rules.specs.Liveness.{process, lists_of, is_spilled}
-use Rattle.rules.specs.Refusals.{refusal_number, file_refusals}
+use Rattle.rules.specs.Refusals.{refusal_number, needed, file_refusals}
 use Rattle.rules.specs.Slots.{give_slot, free_slot}
 use Rattle.rules.specs.Plan.{planned}
 use Rattle.rules.specs.Rewriting.{rewritten}
-use Rattle.rules.specs.Services.{liveness_verdict, liveness_answer, liveness_ins, liveness_outs, list_verdict, list_answer, list_words, records_of, rewriting_verdict, rewriting_answer, rewriting_output, final_records, program_writes}
+use Rattle.rules.specs.Services.{answering, liveness_verdict, liveness_answer, liveness_ins, liveness_outs, list_verdict, list_answer, list_words, records_of, rewriting_verdict, rewriting_answer, rewriting_output, final_records, program_writes}
 use Rattle.rules.specs.SheetFiles.{file, p1, p1-rewritten, p2, p3, p4, p5, p6, p6-rewritten, p7, p7-rewritten, p8, p9, p9-across, p10, p10-unreachable, freed-twice, spilled-result, spilled-result-rewritten, store-then-load, store-then-load-rewritten, parameter, parameter-rewritten, landing-words, landing-words-rewritten, plain-edges, plain-edges-rewritten, parameters, parameters-rewritten, results, results-rewritten, cold, cold-rewritten, copied, copied-rewritten, landings, landings-rewritten, unmarked, unmarked-rewritten, early, slotless, own-result, own-result-rewritten, undominated, undominated-rewritten, sizes, sizes-rewritten, unreachable, two_edges, many}
-use Rattle.rules.specs.declared.RewritingAnswer.{RewritingAnswer}
-use Rattle.rules.specs.declared.Verdict.{Verdict}
-use Rattle.rules.specs.declared.Verdict.TheVariants as verdict
+use Rattle.rules.specs.declared.Refusal.{Refusal}
+use Rattle.rules.specs.declared.Refusal.TheVariants as refusal
 
 -- what a sheet asks of its file
 pub data Ask : Type 0 where
@@ -22,7 +21,7 @@ pub data Ask : Type 0 where
   answers : (pointer lent : ℕ) → Ask  -- rewriting's refusal, records, slots, landings, visits, pushes, unchanged
   refuses : Ask  -- rewriting's refusal, for pointer size 8 and room enough
   final : (pointer : ℕ) → Ask  -- the bytes of the final records
-  part : Verdict → (records : ℕ) → Ask  -- the same by an answer that no call gave: unchanged, with so many records
+  part : Result Unit Refusal → (records : ℕ) → Ask  -- the same by an answer that no call gave: unchanged, with so many records
   visits : Ask  -- the blocks visited, in order
   lists : (instruction lent : ℕ) → Ask  -- a list's refusal, its count, and the lent words
   liveness : (ins outs : ℕ) → Ask  -- liveness's refusal, visits and pushes with tables so long, and of each its length and sum
@@ -35,24 +34,27 @@ pub data Ask : Type 0 where
 abbrev pub room : ℕ
 room = 1024
 
+-- a refusal by its number, 0 where the call is answered, and the numbers of the answer; of a refusal the length needed, or zeros
+abbrev pub numbers : {A : Type 0} → (A → List ℕ) → (Refusal → List ℕ) → Result A Refusal → List ℕ
+numbers of refused (Ok a) = 0 ∷ of a
+numbers of refused (Err e) = refusal_number e ∷ refused e
+
 abbrev pub answer : Ask → List ℕ → List ℕ
 answer (rewrites pointer lent) s = rewriting_output s pointer lent
 answer (answers pointer lent) s =
-    let a = rewriting_answer s pointer lent in
-    refusal_number a.verdict ∷ a.records ∷ a.slots ∷ a.landings ∷ a.visits ∷ a.pushes ∷ bit a.unchanged ∷ []
-answer refuses s = refusal_number (rewriting_answer s 8 room).verdict ∷ []
+    numbers (λ a. a.records ∷ a.slots ∷ a.landings ∷ a.visits ∷ a.pushes ∷ bit a.unchanged ∷ []) (λ e. needed e ∷ replicate 5 0)
+    (rewriting_answer s pointer lent)
+answer refuses s = numbers (λ a. []) (λ e. []) (rewriting_answer s 8 room)
 answer (final pointer) s = final_records (rewriting_answer s pointer room) s (rewriting_output s pointer room)
 answer (part v n) s =
-    let given : RewritingAnswer =
-    record { verdict = v; records = n; slots = 0; landings = 0; visits = 0; pushes = 0; unchanged = true } in
-    final_records given s []
+    final_records (answering v (record { records = n; slots = 0; landings = 0; visits = 0; pushes = 0; unchanged = true })) s []
 answer visits s = reverse (process (function_in s)).visited
-answer (lists i lent) s = let a = list_answer s i lent in refusal_number a.verdict ∷ a.count ∷ list_words s i lent
+answer (lists i lent) s = numbers (λ count. count ∷ []) (λ e. needed e ∷ []) (list_answer s i lent) ++ list_words s i lent
 answer (liveness n m) s =
-    let a = liveness_answer s n m in
     let i = liveness_ins s n m in
     let o = liveness_outs s n m in
-    refusal_number a.verdict ∷ a.visits ∷ a.pushes ∷ length i ∷ foldl ◌+◌ 0 i ∷ length o ∷ foldl ◌+◌ 0 o ∷ []
+    numbers (λ a. a.visits ∷ a.pushes ∷ []) (λ e. replicate 2 0) (liveness_answer s n m)
+    ++ (length i ∷ foldl ◌+◌ 0 i ∷ length o ∷ foldl ◌+◌ 0 o ∷ [])
 answer (row b w) s = get_or (liveness_ins s 512 512) (8 * b + w) 0 ∷ get_or (liveness_outs s 512 512) (8 * b + w) 0 ∷ []
 answer slots s =
     let f = function_in s in
@@ -256,9 +258,9 @@ sheets =
     ∷ record { asked = refuses; of = file (p1 ++ ((14, 0, 0, 4) ∷ [])); says = 4 ∷ [] }
     ∷ record { asked = refuses; of = file (p1 ++ ((15, 0, 0, 0) ∷ [])); says = 4 ∷ [] }
     -- final records by any answer: the first records x 16 bytes, none where the buffer is shorter or for a refusal
-    ∷ record { asked = part verdict.Accepted 2; of = file ((1, 4, 0, 0) ∷ (1, 4, 0, 0) ∷ (1, 4, 0, 0) ∷ []); says = file ((1, 4, 0, 0) ∷ (1, 4, 0, 0) ∷ []) }
-    ∷ record { asked = part verdict.Accepted 3; of = file ((1, 4, 0, 0) ∷ (1, 4, 0, 0) ∷ []); says = [] }
-    ∷ record { asked = part verdict.TooShort 2; of = file ((1, 4, 0, 0) ∷ (1, 4, 0, 0) ∷ []); says = [] }
+    ∷ record { asked = part (Ok tt) 2; of = file ((1, 4, 0, 0) ∷ (1, 4, 0, 0) ∷ (1, 4, 0, 0) ∷ []); says = file ((1, 4, 0, 0) ∷ (1, 4, 0, 0) ∷ []) }
+    ∷ record { asked = part (Ok tt) 3; of = file ((1, 4, 0, 0) ∷ (1, 4, 0, 0) ∷ []); says = [] }
+    ∷ record { asked = part (Err (refusal.TooShort 2)) 2; of = file ((1, 4, 0, 0) ∷ (1, 4, 0, 0) ∷ []); says = [] }
     -- the program writes the final records, or `refused n` and a line feed; 3 above 32,768 bytes
     ∷ record { asked = program; of = file p8; says = file p8 }
     ∷ record { asked = program; of = file p1; says = file p1-rewritten }

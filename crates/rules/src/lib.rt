@@ -2,6 +2,9 @@
 // contract needs no translation.
 #![tactic(auto)]
 
+ghost use Rattle.std.specs.Prelude.{◌≡◌};
+ghost use Rattle.rules.specs.Refusals.{refusal_number};
+
 // What an edge passes to a parameter of its target.
 #[derive(Clone, Copy)]
 pub enum EdgeArgument {
@@ -57,6 +60,40 @@ pub enum Record {
     Outside,
 }
 
+// The kinds of records, by document 01's numbers. They are no enum: the first word of a record is any number until refusal 4 is past, the
+// definitions `kind`, `named` and `follows` speak of these numbers, and a record that is decoded is a `Record`.
+pub mod kinds {
+    pub const VALUE: u32 = 1;
+
+    pub const BLOCK: u32 = 2;
+
+    pub const PARAMETER: u32 = 3;
+
+    pub const INSTRUCTION: u32 = 4;
+
+    pub const RESULT: u32 = 5;
+
+    pub const ARGUMENT: u32 = 6;
+
+    pub const EDGE: u32 = 7;
+
+    pub const EDGE_ARGUMENT: u32 = 8;
+
+    pub const CONTEXT: u32 = 9;
+
+    pub const SLOT: u32 = 10;
+
+    pub const MAP_ENTRY: u32 = 11;
+
+    pub const SLOT_ADDRESS: u32 = 12;
+
+    pub const STORE: u32 = 13;
+
+    pub const LOAD: u32 = 14;
+
+    pub const JUMP: u32 = 15;
+}
+
 // The four words of a record: its kind, and words 2, 3, 4.
 #[derive(Clone, Copy)]
 pub struct Words {
@@ -66,10 +103,9 @@ pub struct Words {
     pub fourth: u32,
 }
 
-// Whether a call is answered, and if not, why; `refusal_number` of specs/Refusals.antt gives document 01's number.
-#[derive(Clone, Copy)]
-pub enum Verdict {
-    Accepted,
+// Why a call is refused; `refusal_number` of specs/Refusals.antt gives document 01's number.
+#[derive(Clone, Copy, Debug, PartialEq, Eq)]
+pub enum Refusal {
     PointerSize,
     Length,
     TooMany,
@@ -80,28 +116,41 @@ pub enum Verdict {
     MarkedContext,
     SlotSize,
     NoSafepoint,
-    TooShort,
+    // With how many are needed: words of a live table, numbers of a list, or records.
+    TooShort(u32),
+}
+
+// The number, as a caller in another language has it.
+impl From<Refusal> for u32 {
+    ghost from_gives = { λ e n. n ≡ refusal_number e };
+
+    fn from(refusal: Refusal) -> u32 {
+        match refusal {
+            Refusal::PointerSize => 1,
+            Refusal::Length => 2,
+            Refusal::TooMany => 3,
+            Refusal::Malformed => 4,
+            Refusal::NotInFile => 5,
+            Refusal::NotDefinedOnce => 6,
+            Refusal::Unsound => 7,
+            Refusal::MarkedContext => 8,
+            Refusal::SlotSize => 9,
+            Refusal::NoSafepoint => 10,
+            Refusal::TooShort(_) => 11,
+        }
+    }
 }
 
 // What liveness answers, beside its two lent tables.
 #[derive(Clone, Copy)]
-pub struct LivenessAnswer {
-    pub verdict: Verdict,
+pub struct LivenessCounts {
     pub visits: u32,
     pub pushes: u32,
 }
 
-// What the list of one safepoint answers, beside the lent words. Of a list that does not fit, count is what it needs.
-#[derive(Clone, Copy)]
-pub struct ListAnswer {
-    pub verdict: Verdict,
-    pub count: u32,
-}
-
-// What rewriting answers, beside the lent output. Of an output that does not fit, records is what it needs.
+// What rewriting answers, beside the lent output; of an unchanged file too, where document 01 wants all counts.
 #[derive(Clone, Copy)]
 pub struct RewritingAnswer {
-    pub verdict: Verdict,
     pub records: u32,
     pub slots: u32,
     pub landings: u32,

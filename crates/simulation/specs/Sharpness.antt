@@ -1,7 +1,7 @@
 -- Demand 3 is not empty and is sharp, by computation, in a world and under a mover that moves every word. For document
 -- 01's P1, P5 and P6 the two runs agree, whatever words and slots hold at first. For wrong outputs, and for a file with an
 -- undominated use, they differ: most of them whatever is held at first, two of them only by what nobody set.
-use Rattle.std.specs.Prelude.{ℕ, suc, ◌+◌, ◌*◌, ◌≡◌, ◌≢◌, false, not, cond, List, [], ◌∷◌, get_or, T, eqb}
+use Rattle.std.specs.Prelude.{ℕ, suc, ◌+◌, ◌*◌, ◌≡◌, ◌≢◌, false, not, cond, List, [], ◌∷◌, get_or, T, eqb, is_ok}
 use Rattle.std.proofs.Math.Path.{refl}
 use Rattle.std.proofs.Common.{ap}
 use Rattle.std.proofs.Math.Option.{none}
@@ -14,7 +14,7 @@ use Rattle.rules.specs.Refusals.{file_refusals}
 use Rattle.rules.specs.Slots.{give_slot, free_slot}
 use Rattle.rules.specs.Plan.{planned}
 use Rattle.rules.specs.Rewriting.{rewritten}
-use Rattle.rules.specs.Services.{is_accepted, records_of, rewriting_verdict, rewriting_answer, rewriting_output, final_records}
+use Rattle.rules.specs.Services.{records_of, rewriting_verdict, rewriting_answer, rewriting_output, final_records}
 use Rattle.rules.specs.TwoRuns.{World, Mover, Seen, trace}
 use Rattle.rules.specs.Demand3.{every_instruction, final_file}
 use Rattle.rules.specs.SheetFiles.{Row, file, p1, p1-rewritten, p5, p6}
@@ -106,9 +106,9 @@ undominated-edge =
     (2, 0, 3, 0) ∷ (3, 2, 0, 0) ∷ (4, 2, 0, 0) ∷ (6, 2, 0, 0) ∷ []
 
 -- all four files are accepted
-pub accepted : T (is_accepted (rewriting_answer (file p1) 8 room).verdict) × T (is_accepted (rewriting_answer (file p5) 8 room).verdict)
-    × T (is_accepted (rewriting_answer (file p6) 8 room).verdict)
-    × T (is_accepted (rewriting_answer (file undominated-edge) 8 room).verdict)
+pub accepted : T (is_ok (rewriting_answer (file p1) 8 room)) × T (is_ok (rewriting_answer (file p5) 8 room))
+    × T (is_ok (rewriting_answer (file p6) 8 room))
+    × T (is_ok (rewriting_answer (file undominated-edge) 8 room))
 unfolding p1 p5 p6 decode record_at records first_words bytes followers follows function function_records reachable process
     lists_of is_spilled file_refusals give_slot free_slot planned rewritten records_of rewriting_verdict rewriting_answer
     rewriting_output final_records

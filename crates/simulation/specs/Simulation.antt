@@ -1,7 +1,7 @@
 -- The simulation: related functions have equal traces. An induction on steps that looks only at the path taken: at every
 -- step the two runs stand at one point of a path, the same words have arrived there, and their machines agree through that
 -- path's ghost.
-use Rattle.std.specs.Prelude.{ℕ, zero, suc, ◌+◌, ◌%◌, ◌≡◌, refl, ◌⊎◌, Bool, true, false, List, [], ◌∷◌, map, length, get_or, T}
+use Rattle.std.specs.Prelude.{ℕ, zero, suc, ◌+◌, ◌%◌, ◌≡◌, refl, ◌⊎◌, Bool, true, false, List, [], ◌∷◌, map, length, get_or, T, is_ok}
 use Rattle.std.proofs.Common.{arith, mod-lt, sym, ap, ap₂, subst, subst₂, ◌∙◌, inl, inr}
 use Rattle.std.proofs.Math.Option.{Option, none, some}
 use Rattle.rules.specs.Lists.{has, nothing, up_from}
@@ -11,7 +11,7 @@ use Rattle.rules.specs.Graph.{block_at, is_marked}
 use Rattle.rules.specs.TwoRuns.{World, Mover, Seen, Machine, define, set_arrived, passed, Step, Next, meets, along, ends}
 use Rattle.rules.specs.TwoRuns.{meet, enter_block, follow, take_step, run, trace}
 use Rattle.rules.specs.File.{function_in}
-use Rattle.rules.specs.Services.{is_accepted, rewriting_answer}
+use Rattle.rules.specs.Services.{rewriting_answer}
 use Rattle.rules.specs.Demand3.{every_instruction, Dominated, final_file, Demand3}
 use Rattle.simulation.specs.Ghost.{Ghost, nothing_known, past, defining, stepping, passing, binding}
 use Rattle.simulation.specs.Related.{Paired, numbers, IsBlock, at, crossing, replaced, is_added, Shape, done, kept, added, lands}
@@ -326,7 +326,7 @@ related-traces f g related world mover words words' slots slots' steps =
 
 -- So demand 3 holds once every accepted file in which every use is dominated is related to what rewriting leaves of it.
 pub demand3-by-relation :
-    ((s : List ℕ) (pointer n : ℕ) → IsBytes s → T (is_accepted (rewriting_answer s pointer n).verdict) → Dominated (function_in s)
+    ((s : List ℕ) (pointer n : ℕ) → IsBytes s → T (is_ok (rewriting_answer s pointer n)) → Dominated (function_in s)
     → Related (function_in s) (function_in (final_file s pointer n)))
     → Demand3
 unfolding Demand3

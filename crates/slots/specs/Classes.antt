@@ -1,23 +1,21 @@
 -- The class of a slot's size: document 01's five sizes, each with its logarithm for a number.
-use Rattle.std.specs.Prelude.{ℕ, ◌≡◌, refl, Bool, true, false, not, ◌||◌, cond, [], ◌∷◌, T, eqb}
+use Rattle.std.specs.Prelude.{ℕ, ◌≡◌, refl, Bool, true, false, not, ◌||◌, cond, [], ◌∷◌, T, eqb, Option, Some, None}
 use Rattle.std.proofs.Common.{sym, eqb→eq}
 use Rattle.rules.specs.Lists.{has}
 use Rattle.rules.specs.Records.{slot_sizes, log2}
 use Rattle.lists.specs.Tests.{or_elim}
 use Rattle.slots.specs.declared.SlotSize.{SlotSize}
 use Rattle.slots.specs.declared.SlotSize.TheVariants as slot
-use Rattle.slots.specs.declared.SizeClass.{SizeClass}
-use Rattle.slots.specs.declared.SizeClass.TheVariants as class
 
--- the class of a size in bytes
-unfoldable pub class_of : ℕ → SizeClass
+-- the class of a size in bytes, if a slot can have that size
+unfoldable pub class_of : ℕ → Option SlotSize
 class_of n =
-    cond (eqb n 1) (class.Class slot.Size8)
-    (cond (eqb n 2) (class.Class slot.Size16)
-    (cond (eqb n 4) (class.Class slot.Size32)
-    (cond (eqb n 8) (class.Class slot.Size64)
-    (cond (eqb n 16) (class.Class slot.Size128)
-    class.NoClass))))
+    cond (eqb n 1) (Some slot.Size8)
+    (cond (eqb n 2) (Some slot.Size16)
+    (cond (eqb n 4) (Some slot.Size32)
+    (cond (eqb n 8) (Some slot.Size64)
+    (cond (eqb n 16) (Some slot.Size128)
+    None))))
 
 -- the number of a class
 abbrev pub index : SlotSize → ℕ
@@ -36,7 +34,7 @@ bytes slot.Size64 = 8
 bytes slot.Size128 = 16
 
 -- a class is that of its size, which a slot can have, and its number is the size's logarithm
-pub class-of-bytes : (c : SlotSize) → class_of (bytes c) ≡ class.Class c
+pub class-of-bytes : (c : SlotSize) → class_of (bytes c) ≡ Some c
 unfolding class_of
 class-of-bytes slot.Size8 = refl
 class-of-bytes slot.Size16 = refl
@@ -67,13 +65,13 @@ class-of-slot-size n =
     (or_elim (eqb n 8) (has n (16 ∷ [])) (λ e. (slot.Size64, sym (eqb→eq n 8 e)))
     (or_elim (eqb n 16) false (λ e. (slot.Size128, sym (eqb→eq n 16 e))) (λ x. absurd x)))))
 
-pub no-class : (n : ℕ) → T (not (has n slot_sizes)) → class_of n ≡ class.NoClass
+pub no-class : (n : ℕ) → T (not (has n slot_sizes)) → class_of n ≡ None
 unfolding class_of
 no-class n h = go (eqb n 1) (eqb n 2) (eqb n 4) (eqb n 8) (eqb n 16) h
   where
     go : (a b c d e : Bool) → T (not (a || (b || (c || (d || (e || false))))))
-        → cond a (class.Class slot.Size8) (cond b (class.Class slot.Size16) (cond c (class.Class slot.Size32)
-        (cond d (class.Class slot.Size64) (cond e (class.Class slot.Size128) class.NoClass)))) ≡ class.NoClass
+        → cond a (Some slot.Size8) (cond b (Some slot.Size16) (cond c (Some slot.Size32)
+        (cond d (Some slot.Size64) (cond e (Some slot.Size128) None)))) ≡ None
     go true b c d e h = absurd h
     go false true c d e h = absurd h
     go false false true d e h = absurd h

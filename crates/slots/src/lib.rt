@@ -5,7 +5,7 @@ ghost use Rattle.std.specs.Prelude.{◌≡◌, ◌<◌};
 ghost use Rattle.slots.specs.Classes.{class_of, index};
 
 // The class of a slot's size, as the Rust has them: their names are in bits.
-#[derive(Clone, Copy)]
+#[derive(Clone, Copy, Debug, PartialEq, Eq)]
 pub enum SlotSize {
     Size8,
     Size16,
@@ -14,28 +14,21 @@ pub enum SlotSize {
     Size128,
 }
 
-// What a size in bytes is for slots: a class, or none, where the Rust panics and rewriting refuses with 9.
-#[derive(Clone, Copy)]
-pub enum SizeClass {
-    Class(SlotSize),
-    NoClass,
-}
-
 impl SlotSize {
     // How many classes there are: the Rust's `SLOT_SIZE_LEN`.
     pub const LEN: usize = 5;
 
-    // The class of a size in bytes.
-    pub fn new(bytes: u32) -> SizeClass
+    // The class of a size in bytes; none for another size, where the Rust panics and rewriting refuses with 9.
+    pub fn new(bytes: u32) -> Option<SlotSize>
         ensures { result ≡ class_of bytes }
     {
         match bytes {
-            1 => SizeClass::Class(SlotSize::Size8),
-            2 => SizeClass::Class(SlotSize::Size16),
-            4 => SizeClass::Class(SlotSize::Size32),
-            8 => SizeClass::Class(SlotSize::Size64),
-            16 => SizeClass::Class(SlotSize::Size128),
-            _ => SizeClass::NoClass,
+            1 => Some(SlotSize::Size8),
+            2 => Some(SlotSize::Size16),
+            4 => Some(SlotSize::Size32),
+            8 => Some(SlotSize::Size64),
+            16 => Some(SlotSize::Size128),
+            _ => None,
         }
     }
 

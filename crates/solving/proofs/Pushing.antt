@@ -1,5 +1,5 @@
 -- Pushing the blocks of a list, one entry after the other.
-use Prim.Native.Nat.{ℕ, suc, ◌+◌, ◌-◌, ◌<◌}
+use Prim.Native.Nat.{ℕ, suc, ◌+◌, ◌^◌, ◌<◌}
 use native.Mathlib.Omega.{arith}
 use mathlib.Core.Path.{◌≡◌, refl, sym, ap, subst, ◌∙◌}
 use mathlib.Core.List.{List, [], ◌∷◌}
@@ -51,13 +51,8 @@ pub record Pushing (from next all : List ℕ) (at : Progress) (tag : ℕ) (here 
 -- all of it is left at the start
 pub pushing-start :
     (from next : List ℕ) (tag : ℕ) (at : Progress) → Chain from next tag → Pushable (chain from next tag) at
-    → Pushing from next (chain from next tag) at tag (record { worklist = at.worklist; visits = at.visits; pushes = at.pushes + 0 })
-pushing-start from next tag at falls h =
-    record {
-      entries-fall = falls;
-      pushable = record { kept = h.kept; below = h.below; counted = omega (arith, h.counted) };
-      rest = λ r pushed. record { left = pushed.left; kept = pushed.kept; visits = pushed.visits; pushes = omega (arith, pushed.pushes) };
-    }
+    → Pushing from next (chain from next tag) at tag at
+pushing-start from next tag at falls h = record { entries-fall = falls; pushable = h; rest = λ r pushed. pushed }
 
 module _ (from next all : List ℕ) (at : Progress) (tag : ℕ) (here' : Progress) (h : Pushing from next all at tag here') where
   -- none is left
@@ -65,14 +60,8 @@ module _ (from next all : List ℕ) (at : Progress) (tag : ℕ) (here' : Progres
   pushing-done none =
       h.rest here' (subst (λ (t : ℕ). Pushed (chain from next t) here' here') (sym none) (pushed_none here' h.pushable.kept))
 
-  module _ (opened : 0 < tag) where
-    -- the entry
-    abbrev e : ℕ
-    e = tag - 1
-
-    is : tag ≡ suc e
-    is = omega arith
-
+  -- THE ENTRY of the tag
+  module _ (e : ℕ) (is : tag ≡ suc e) where
     falls : Chain from next (suc e)
     falls = subst (Chain from next) is h.entries-fall
 
@@ -84,9 +73,13 @@ module _ (from next all : List ℕ) (at : Progress) (tag : ℕ) (here' : Progres
     pushable : Pushable (get_or from e 0 ∷ chain from next (get_or next e 0)) here'
     pushable = subst (λ (ps : List ℕ). Pushable ps here') list h.pushable
 
-    -- so it can
+    -- so it can,
     pub pushing-block : Kept here'.worklist × (get_or from e 0 < largest_blocks)
     pushing-block = (pushable.kept, pushable.below (get_or from e 0) (here refl))
+
+    -- and counts
+    pub pushing-fits : here'.pushes + 1 < 2 ^ 32
+    pushing-fits = omega (arith, pushable.counted)
 
     -- the entry stands in both tables
     pub pushing-entry : (e < length from) × (e < length next)

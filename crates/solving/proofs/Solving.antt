@@ -13,21 +13,23 @@ use Rattle.rules.specs.Tree.{Function}
 use Rattle.rules.specs.File.{function_in}
 use Rattle.rules.specs.Graph.{is_marked, reachable}
 use Rattle.rules.specs.Liveness.{start, after, through, joined, predecessors, bound, process}
-use Rattle.lists.specs.Members.{◌∈◌}
+use Rattle.lists.specs.Members.{◌∈◌, here}
 use Rattle.lists.specs.Sets.{Within}
 use Rattle.walks.specs.InFile.{reachable-in-file, length-reachable-le}
 use Rattle.walks.specs.Reachable.{reachable-nodup}
 use Rattle.fixpoint.specs.Resumable.{start-resumable, after-resumable}
 use Rattle.fixpoint.specs.MoveToTop.{Compact, compact, push_top, start_top, visit_of, visit_entry, step_top, after_top, compact-after, compact-start}
 use Rattle.fixpoint.specs.TopAnswer.{top-visits-le, top-visits-lt, top-pushes-le, top-reachable, top-final}
-use Rattle.graph.specs.Zeros.{Zeros, length-padded-le}
+use Rattle.graph.specs.Zeros.{Zeros}
+use lib.Seq.{take-length}
 use Rattle.graph.specs.ByTable.{some}
+use Rattle.graph.specs.Links.{Walked}
 use Rattle.rows.specs.Rows.{rows, rows-zeros}
-use Rattle.worklist.specs.Entries.{entries, Stacked, Kept, empty-none}
+use Rattle.worklist.specs.Entries.{entries, Stacked, Kept}
 use Rattle.worklist.specs.declared.Worklist.{Worklist}
 use Rattle.solving.specs.declared.Progress.{Progress}
-use Rattle.solving.specs.Progress.{Stands}
-use Rattle.solving.specs.Tables.{LiveTables, Ready, Solvable}
+use Rattle.solving.specs.Progress.{Popped, Stands}
+use Rattle.solving.specs.Tables.{LiveTables, Ready, Ruled, Solvable}
 use Rattle.solving.specs.Bounds.{bound-le, predecessors-le}
 use Rattle.solving.proofs.Visiting.{pushes_all}
 
@@ -61,43 +63,40 @@ step-visited f c more = go c.entries more
     go (b ∷ rest) e = visit-visited f c b rest
 
 -- THE FILE and its tables, as they are lent
-module _ {s places order : List ℕ} {count : ℕ} {first from next uses kills ins₀ outs₀ : List ℕ}
-    (h : Solvable s places order count first from next uses kills ins₀ outs₀) where
+module _ {s places order : List ℕ} (w : Walked s places order (length order)) {uses kills : List ℕ} (ruled : Ruled (function_in s) uses kills)
+    {ins₀ outs₀ : List ℕ} (h : Solvable (function_in s) ins₀ outs₀) where
   abbrev f : Function
   f = function_in s
 
   -- there is a block,
   some_block : 0 < length f.blocks
-  some_block = some s places h.walked.given
+  some_block = some s places w.given
 
   -- the reachable ones are in the file,
   in-file : {b : ℕ} → b ∈ reachable f → b < length f.blocks
-  in-file = reachable-in-file f h.walked.given.in_file some_block
+  in-file = reachable-in-file f w.given.in_file some_block
 
   -- and have a place on the worklist
   in-worklist : {b : ℕ} → b ∈ reachable f → b < largest_blocks
-  in-worklist m = let l = in-file m in omega (arith, h.ruled.few.blocks)
+  in-worklist m = let l = in-file m in omega (arith, ruled.few.blocks)
 
   -- the bound is a number that the counts have room for
   bound-fits : bound f ≤ largest_blocks + largest_values * largest_edges
-  bound-fits = bound-le f h.walked.given.in_file some_block h.ruled.few
+  bound-fits = bound-le f w.given.in_file some_block ruled.few
 
   -- THE START. The blocks by index are the reachable ones,
-  blocks-listed : take count order ≡ reachable f
+  blocks-listed : order ≡ reachable f
   blocks-listed =
-      (λ i. take (h.walked.counted i) (h.walked.listed i)) ∙ take-append_seam (reachable f) _
+      sym (take-length order) ∙ (λ i. take (w.counted i) (w.listed i)) ∙ take-append_seam (reachable f) _
 
   -- can be pushed,
-  pub start-requires : (count ≤ length order) × Stacked (take count order)
-  start-requires = (
-    omega (arith, h.walked.counted, ap length h.walked.listed, length-padded-le (length order) (reachable f)),
-    subst Stacked (sym blocks-listed) (record { once = reachable-nodup f; below = λ b m. in-worklist m }),
-  )
+  pub start-requires : Stacked order
+  start-requires =
+      subst Stacked (sym blocks-listed) (record { once = reachable-nodup f; below = λ b m. in-worklist m })
 
   -- and are counted;
-  pub count_fits : count < 2 ^ 32
-  count_fits =
-      omega (arith, h.walked.counted, length-reachable-le f h.walked.given.in_file some_block, h.ruled.few.blocks)
+  pub count_fits : length order < 2 ^ 32
+  count_fits = omega (arith, w.counted, length-reachable-le f w.given.in_file some_block, ruled.few.blocks)
 
   -- zeros are empty sets
   zero-rows : {t : List ℕ} → Zeros t → rows t ≡ (λ _. nothing)
@@ -105,16 +104,16 @@ module _ {s places order : List ℕ} {count : ℕ} {first from next uses kills i
 
   -- so at first they and the tables of zeros stand for the start of the process.
   pub start-stands :
-      (w : Worklist) → entries w ≡ take count order → Kept w
-      → Stands ins₀ outs₀ (record { worklist = w; visits = 0; pushes = count }) (start_top f)
-  start-stands w e kept =
+      (list : Worklist) → entries list ≡ order → Kept list
+      → Stands ins₀ outs₀ (record { worklist = list; visits = 0; pushes = length order }) (start_top f)
+  start-stands list e kept =
       record {
         live_in = zero-rows h.ins-zero;
         live_out = zero-rows h.outs-zero;
         left = e ∙ blocks-listed;
         kept = kept;
         visits = refl;
-        pushes = h.walked.counted;
+        pushes = w.counted;
       }
 
   -- AFTER SOME VISITS the tables and the worklist stand for the state after as many steps.
@@ -154,54 +153,55 @@ module _ {s places order : List ℕ} {count : ℕ} {first from next uses kills i
 
     -- Where none is left, this is the answer;
     pub solved :
-        empty (entries at.worklist) ≡ true
+        entries at.worklist ≡ []
         → (rows ins ≡ (process f).ins) × (rows outs ≡ (process f).outs) × (at.visits ≡ length (process f).visited) × (at.pushes ≡ (process f).pushes)
     solved none =
-        let final : state ≡ compact (process f) = top-final f k (sym stands.left ∙ empty-none (entries at.worklist) none) in (
+        let final : state ≡ compact (process f) = top-final f k (sym stands.left ∙ none) in (
           stands.live_in ∙ ap (λ (c : Compact). c.ins) final,
           stands.live_out ∙ ap (λ (c : Compact). c.outs) final,
           stands.visits ∙ ap (λ (c : Compact). length c.visited) final,
           stands.pushes ∙ ap (λ (c : Compact). c.pushes) final,
         )
 
-    -- where one is left,
-    module _ (more : empty (entries at.worklist) ≡ false) where
-      -- a visit can be made,
-      pub ready : Ready f at
-      ready =
+    -- where a block is on top and taken off,
+    module _ (b : ℕ) (r : Progress) (popped : Popped at b r) where
+      on-top : state.entries ≡ b ∷ entries r.worklist
+      on-top = sym stands.left ∙ popped.left
+
+      top-reached : b ∈ reachable f
+      top-reached = reached (subst (λ (l : List ℕ). b ∈ l) (sym popped.left) (here refl))
+
+      -- a visit of it can be made,
+      pub ready : Kept r.worklist → Ready f b r
+      ready kept =
           record {
-            some = more;
-            kept = stands.kept;
-            in-file = λ b m. in-file (reached m);
-            visits = omega (arith, stands.visits, top-visits-le f k, bound-fits);
+            kept = kept;
+            in-file = in-file top-reached;
+            visits = omega (arith, popped.visits, stands.visits, top-visits-le f k, bound-fits);
             pushes =
-                λ b m.
                 omega (
                   arith,
+                  popped.pushes,
                   stands.pushes,
                   top-pushes-le f k,
                   bound-fits,
-                  predecessors-le f h.walked.given.in_file some_block h.ruled.few (reached m),
+                  predecessors-le f w.given.in_file some_block ruled.few top-reached,
                 );
           }
 
       -- for visits are fewer than the bound,
       visits-lt : at.visits < bound f
-      visits-lt = go state.entries refl (ap empty (sym stands.left) ∙ more)
-        where
-          go : (l : List ℕ) → state.entries ≡ l → empty l ≡ false → at.visits < bound f
-          go [] e n = absurd (true≢false n)
-          go (b ∷ rest) e n = omega (arith, stands.visits, top-visits-lt f k e)
+      visits-lt = omega (arith, stands.visits, top-visits-lt f k on-top)
 
-      module _ (ins' outs' : List ℕ) (r : Progress) (stands' : Stands ins' outs' r (step_top f state)) where
+      module _ (ins' outs' : List ℕ) (r' : Progress) (stands' : Stands ins' outs' r' (step_top f state)) where
         -- and it is one visit more,
-        one_more : r.visits ≡ suc k
-        one_more = stands'.visits ∙ step-visited f state (ap empty (sym stands.left) ∙ more) ∙ ap suc (sym stands.visits)
+        one_more : r'.visits ≡ suc k
+        one_more = stands'.visits ∙ step-visited f state (ap empty on-top) ∙ ap suc (sym stands.visits)
 
         -- of which fewer are left,
-        pub solving-less : bound f - r.visits < bound f - at.visits
+        pub solving-less : bound f - r'.visits < bound f - at.visits
         solving-less = omega (arith, one_more, visits-lt)
 
         -- and one step more.
-        pub solving-more : Stands ins' outs' r (after_top f r.visits (start_top f))
-        solving-more = subst (λ (n : ℕ). Stands ins' outs' r (after_top f n (start_top f))) (sym one_more) stands'
+        pub solving-more : Stands ins' outs' r' (after_top f r'.visits (start_top f))
+        solving-more = subst (λ (n : ℕ). Stands ins' outs' r' (after_top f n (start_top f))) (sym one_more) stands'

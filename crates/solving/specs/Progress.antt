@@ -1,5 +1,5 @@
 -- What each step of the process does to the tables and the worklist, and what state of the process they stand for.
-use Rattle.std.specs.Prelude.{ℕ, ◌+◌, ◌<◌, ◌^◌, ◌≡◌, Bool, List, length}
+use Rattle.std.specs.Prelude.{ℕ, ◌+◌, ◌<◌, ◌^◌, ◌≡◌, Bool, List, ◌∷◌, length}
 use Rattle.rules.specs.Limits.{largest_blocks}
 use Rattle.rules.specs.Lists.{any, foldl, update, NumberSet, union, grew}
 use Rattle.rules.specs.Tree.{Function}
@@ -43,6 +43,12 @@ pub record Pushed (ps : List ℕ) (at r : Progress) : Type 0 where
   pub kept : Kept r.worklist
   pub visits : r.visits ≡ at.visits
   pub pushes : r.pushes ≡ at.pushes + length ps
+
+-- Block b was on top of a progress, and is taken off.
+pub record Popped (at : Progress) (b : ℕ) (r : Progress) : Type 0 where
+  pub left : entries at.worklist ≡ b ∷ entries r.worklist
+  pub visits : r.visits ≡ at.visits
+  pub pushes : r.pushes ≡ at.pushes
 
 -- THE STATE of the process that tables and worklist stand for.
 pub record Stands (ins outs : List ℕ) (at : Progress) (c : Compact) : Type 0 where

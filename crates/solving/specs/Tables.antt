@@ -1,24 +1,23 @@
 -- What the process asks of the tables that it is lent, and how a caller shows it.
-use Rattle.std.specs.Prelude.{ℕ, ◌+◌, ◌*◌, ◌<◌, ◌≤◌, ◌^◌, ◌≡◌, refl, false, not, List, [], ◌∷◌, reverse, length, get_or, T}
+use Rattle.std.specs.Prelude.{ℕ, ◌+◌, ◌*◌, ◌<◌, ◌≤◌, ◌^◌, ◌≡◌, refl, not, List, [], ◌∷◌, reverse, length, get_or, T}
 use Rattle.std.proofs.Common.{arith, sym, ap, subst, ◌∙◌}
 use Rattle.rules.specs.Limits.{largest_values, largest_blocks, largest_edges, row_words, table_words}
-use Rattle.rules.specs.Lists.{empty, foldl}
+use Rattle.rules.specs.Lists.{foldl}
 use Rattle.rules.specs.Tree.{Function}
 use Rattle.rules.specs.Records.{records}
 use Rattle.rules.specs.File.{ordered, function_in}
 use Rattle.rules.specs.Graph.{is_marked, successors, reachable}
 use Rattle.rules.specs.Liveness.{predecessors}
 use Rattle.rules.specs.Refusals.{too_many, all_edges, numbers_in_file}
-use Rattle.lists.specs.Members.{◌∈◌}
 use Rattle.lists.specs.Sets.{Within}
 use Rattle.fixpoint.specs.Rule as rule
 use Rattle.graph.specs.Zeros.{Zeros}
-use Rattle.graph.specs.Links.{Links, links, link_block, linked, list_at, LentLinks, Walked}
+use Rattle.graph.specs.Links.{Links, links, link_block, linked, list_at, LentLinks}
 use Rattle.graph.specs.LinkLaws.{edges-first, linked-chained, predecessors-linked}
 use Rattle.graph.specs.LinkLaws as laws
 use Rattle.graph.specs.Few.{values-few, blocks-few, edges_few}
 use Rattle.rows.specs.Rows.{rows}
-use Rattle.worklist.specs.Entries.{entries, Kept}
+use Rattle.worklist.specs.Entries.{Kept}
 use Rattle.solving.specs.declared.Progress.{Progress}
 use Rattle.solving.specs.Chains.{chain, Chain, linked-chain, chain-linked}
 
@@ -56,22 +55,18 @@ pub record LiveTables (f : Function) (ins outs : List ℕ) : Type 0 where
   pub ins-marked : (b : ℕ) → Within (rows ins b) (is_marked f)
   pub outs-marked : (b : ℕ) → Within (rows outs b) (is_marked f)
 
--- A VISIT can be made: a block is left to visit, all that are left are the file's, and both counts stay in the lower half
--- of what 32 bits hold, so that no sum overflows.
-pub record Ready (f : Function) (at : Progress) : Type 0 where
-  pub some : empty (entries at.worklist) ≡ false  -- there is a block on top
-  pub kept : Kept at.worklist  -- none stands there twice, and each has its mark
-  pub in-file : (b : ℕ) → b ∈ entries at.worklist → b < length f.blocks
+-- A VISIT of block b, which was on top, can be made: it is the file's, and both counts stay in the lower half of what 32 bits
+-- hold, so that no sum overflows.
+pub record Ready (f : Function) (b : ℕ) (at : Progress) : Type 0 where
+  pub kept : Kept at.worklist  -- no block stands there twice, and each has its mark
+  pub in-file : b < length f.blocks
   pub visits : at.visits < 2 ^ 31
-  pub pushes : (b : ℕ) → b ∈ entries at.worklist → at.pushes + length (predecessors f b) < 2 ^ 31
+  pub pushes : at.pushes + length (predecessors f b) < 2 ^ 31
 
--- THE WHOLE PROCESS: the file is walked, its rule and its lists are known, and the live tables are zeros.
-pub record Solvable (s places order : List ℕ) (count : ℕ) (first from next uses kills ins outs : List ℕ) : Type 0 where
-  pub walked : Walked s places order count  -- the block table, the blocks by index, tails last
-  pub ruled : Ruled (function_in s) uses kills  -- uses and kills of each block
-  pub listed : Listed (function_in s) first from next  -- predecessors of each block
-  pub in_rows : HasRows (function_in s) ins
-  pub out-rows : HasRows (function_in s) outs
+-- THE WHOLE PROCESS: the live tables are zeros.
+pub record Solvable (f : Function) (ins outs : List ℕ) : Type 0 where
+  pub in_rows : HasRows f ins
+  pub out-rows : HasRows f outs
   pub ins-zero : Zeros ins
   pub outs-zero : Zeros outs
 

@@ -28,7 +28,7 @@ use Rattle.graph.specs.Sections.{place_if, places}
 use Rattle.graph.specs.Placed.{places_of, place_table}
 use Rattle.graph.specs.Blocks.{place_of, length-block_places}
 use Rattle.graph.specs.Tables.{Given}
-use Rattle.graph.specs.ByTable.{place_at, start-less, end-le}
+use Rattle.graph.specs.ByTable.{place_at}
 use Rattle.soundness.specs.Standing.{only}
 use Rattle.soundness.specs.Fitting.{arguments_first, parameters_first, argument_fits, edge_fits, fit-more, parameters-first}
 
@@ -146,10 +146,6 @@ module _ (s table : List ℕ) (g : Given s table) (i : ℕ) (w : Words) (e : w �
       let there = all→∈ (fit_numbers values blocks) (records s) all_fit (get_d-∈ (records s) i record'.Outside (omega arith)) in
       let fits = subst (λ x. T (numbers_fit values blocks x)) (ap encode (record-there s i h) ∙ sym e) there in
       ltb→lt w.second blocks (fit-edge values blocks w fits (subst T (sym (eq-eqb w.kind 7 seven)) tt))
-
-  -- which starts in it,
-  pub target-starts : get_or table w.second 0 + 1 ≤ record_count s
-  target-starts = omega (arith, start-less s table g w.second target-in-file, end-le s table g w.second target-in-file)
 
   -- and behind its record stand its parameters.
   pub target-parameters : parameters_first (rest s (get_or table w.second 0 + 1)) ≡ (block_at (function_in s) w.second).parameters

@@ -26,6 +26,14 @@ module _ (flags : ℕ) (w : Words) where
   abbrev ends : Bool
   ends = is_terminator flags
 
+  pub stand-parameter : w.kind ≡ 3 → may_stand flags w ≡ true
+  unfolding may_stand
+  stand-parameter e = ap (λ k. may_stand flags (with_kind k)) e
+
+  pub stand-use : w.kind ≡ 6 → may_stand flags w ≡ true
+  unfolding may_stand
+  stand-use e = ap (λ k. may_stand flags (with_kind k)) e
+
   pub stand-block : w.kind ≡ 2 → may_stand flags w ≡ ends
   unfolding may_stand
   stand-block e = ap (λ k. may_stand flags (with_kind k)) e ∙ and-true (ends && true) ∙ and-true ends

@@ -1,39 +1,22 @@
 -- What is read, up to one byte more than the largest input, says what the program writes for the whole.
-use Rattle.std.specs.Prelude.{ℕ, ◌+◌, ◌-◌, ◌<◌, ◌≤◌, ◌≡◌, refl, Bool, true, false, List, ◌++◌, length, take, replicate, ltb, Result, Ok, Err, None, Some, IfSome, OnOk}
+use Rattle.std.specs.Prelude.{ℕ, ◌+◌, ◌<◌, ◌≤◌, ◌≡◌, refl, Bool, true, false, List, ◌++◌, length, take, ltb, Result, Ok, Err, None, Some, IfSome, OnOk}
 use Rattle.std.proofs.Common.{sym, ap, subst, ◌∙◌, arith, length-append, length-take-le}
 use Rattle.std.proofs.lemmas.Bool.{ltb-true, ltb-false, lt-ltb}
 use Rattle.std.proofs.lemmas.List.{append-nil}
-use Rattle.std.proofs.Math.Seq.{take-append_seam}
 use Rattle.std.specs.declared.option.Option.{Option}
 use Rattle.std.specs.Io.KnownBytes.{Appends, Consumes, IsAtEnd}
-use Rattle.rules.specs.Lists.{padded}
-use Rattle.rules.specs.Limits.{program_input, program_output, program_pointer}
+use Rattle.rules.specs.Limits.{program_input, program_output}
 use Rattle.rules.specs.Refusals.{refusal_number}
-use Rattle.rules.specs.Services.{is_accepted, rewriting_answer, rewriting_output, final_records, refused_line, program_writes}
+use Rattle.rules.specs.Services.{written, refused_line, program_writes}
 use Rattle.rules.specs.declared.RewritingAnswer.{RewritingAnswer}
-use Rattle.rules.specs.declared.Verdict.TheVariants as verdict
-use Rattle.program.specs.Program.{line_bytes, program_answer, program_buffer, written, program-writes}
-
--- the line of an answer that refuses
-abbrev line_of : RewritingAnswer → List ℕ
-line_of a = refused_line (refusal_number a.verdict)
+use Rattle.rules.specs.declared.Refusal.{Refusal}
+use Rattle.rules.specs.declared.Refusal.TheVariants as refusal
+use Rattle.program.specs.Program.{program_answer, program_buffer, program-writes}
 
 -- what is too long gets one line, whatever it is
-too-long : (s : List ℕ) → program_input < length s → program_writes s ≡ refused_line (refusal_number verdict.TooMany)
+too-long : (s : List ℕ) → program_input < length s → program_writes s ≡ refused_line (refusal_number refusal.TooMany)
 unfolding program_writes
-too-long s l =
-    let answer = rewriting_answer s program_pointer program_output in
-    ap
-    (λ (b : Bool).
-    elim b as (λ _. List ℕ) [
-      | true ↦ refused_line (refusal_number verdict.TooMany)
-      | false ↦
-          elim (is_accepted answer.verdict) as (λ _. List ℕ) [
-            | true ↦ final_records answer s (rewriting_output s program_pointer program_output)
-            | false ↦ refused_line (refusal_number answer.verdict)
-          ]
-    ])
-    (lt-ltb program_input (length s) l)
+too-long s l = rw (program_writes, lt-ltb program_input (length s) l) refl
 
 -- a buffer of one byte more than the largest input, whose first n bytes were read of s: all of s where they do not fill it
 pub read-writes : (known left : Option (List ℕ)) (buffer : List ℕ) (n : ℕ) → length buffer ≡ program_input + 1 → n ≤ length buffer
@@ -52,16 +35,12 @@ read-writes (Some s) (Some rest) buffer n long fits read whole = by (ltb n (leng
         let all = ap length read ∙ length-append (take n buffer) rest in
         too-long (take n buffer) (omega (arith, taken, full, long)) ∙ sym (too-long s (omega (arith, taken, full, long, all)))
 
--- what `to_write` gives for what `respond` and `refused_line` answer is what the program writes
-pub written-is : (s : List ℕ) (n : ℕ) (a : RewritingAnswer) (out bytes said : List ℕ) (count : ℕ) → n ≡ program_output
-    → a ≡ program_answer s n → out ≡ program_buffer s n → bytes ≡ padded line_bytes (line_of a) → count ≡ length (line_of a)
-    → said ≡ written a s out (take count bytes) → said ≡ program_writes s
-written-is s n a out bytes said count long answer buffer there counted said-is =
-    let line : take count bytes ≡ line_of a = ap (λ k. take k bytes) counted ∙ ap (take (length (line_of a))) there ∙ take-append_seam (line_of a) (replicate (line_bytes - length (line_of a)) 0) in
-    said-is
-    ∙ ap (written a s out) line
-    ∙ ap (λ o. written a s o (line_of a)) (buffer ∙ ap (program_buffer s) long)
-    ∙ ap (λ b. written b s (program_buffer s program_output) (line_of b)) (answer ∙ ap (program_answer s) long)
+-- what is written for what `respond` answers is what the program writes
+pub written-is : (s : List ℕ) (n : ℕ) (a : Result RewritingAnswer Refusal) (out : List ℕ) → n ≡ program_output
+    → a ≡ program_answer s n → out ≡ program_buffer s n → written a s out ≡ program_writes s
+written-is s n a out long answer buffer =
+    ap (λ o. written a s o) (buffer ∙ ap (program_buffer s) long)
+    ∙ ap (λ b. written b s (program_buffer s program_output)) (answer ∙ ap (program_answer s) long)
     ∙ sym (program-writes s)
 
 -- and so does what is appended for it

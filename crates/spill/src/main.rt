@@ -6,7 +6,7 @@ ghost use Rattle.std.specs.Prelude.{◌≤◌, ◌<◌, length, take, IfOk, IfSo
 ghost use Rattle.std.specs.Io.KnownBytes.{Appends, Consumes, IsAtEnd};
 ghost use Rattle.rules.specs.Services.{program_writes};
 
-use program::{PROGRAM_INPUT, PROGRAM_OUTPUT, refused_line, respond, to_write};
+use program::{PROGRAM_INPUT, PROGRAM_OUTPUT, respond, write_answer};
 use std::io::{Read, Result, Write};
 
 fn main(rt: HostRuntime) -> Result<()> {
@@ -22,11 +22,7 @@ fn spill<R: Read, W: Write>(reader: &mut R, writer: &mut W) -> Result<()>
     let mut output: [u8; PROGRAM_OUTPUT] = [0; PROGRAM_OUTPUT];
     let n = read_full(reader, &mut input)?;
     let answer = respond(&input[..n], &mut output);
-    let verdict = answer.verdict;
-    let line = refused_line(verdict);
-    let bytes = line.bytes;
-    let count = line.count;
-    writer.write_all(to_write(answer, &input[..n], &output, &bytes[..count]))
+    write_answer(writer, answer, &input[..n], &output)
 }
 
 // Reads until the buffer is full or the input ends, and returns how many bytes it put at the front.
@@ -35,6 +31,7 @@ fn read_full<R: Read>(reader: &mut R, buffer: &mut [u8]) -> Result<usize>
     ensures bytes { IfOk result (λ n. Consumes (R.remaining reader.old) (R.remaining reader.new) (take n buffer.new)) }
     ensures whole { IfOk result (λ n. n < length buffer.new → IsAtEnd (R.remaining reader.new)) }
 {
+    // The library reads to the end into a `Vec` alone, and this buffer is fixed memory (document 01).
     let mut done = 0;
     while done < buffer.len() {
         let n = reader.read(&mut buffer[done..])?;

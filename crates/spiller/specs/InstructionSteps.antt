@@ -12,9 +12,8 @@ use Rattle.numbering.specs.Beside.{mades_between, edge_plans_at}
 use Rattle.listing.specs.Across.{section_at}
 use Rattle.listing.specs.Parted.{Parted, parted-by, run_end}
 use Rattle.rows.specs.Rows.{row_values, HasRow}
-use Rattle.planning.specs.declared.Progress.{Progress}
 use Rattle.planning.specs.Operands.{Range, use_at, define_at}
-use Rattle.planning.specs.Standing.{Tables, tables, Good, Ran, Walked, Rows, Slotted}
+use Rattle.planning.specs.Standing.{Progress, Tables, tables, Good, Ran, Walked, Rows, Slotted}
 use Rattle.planning.specs.SlotsGiven.{slotted-ran}
 use Rattle.planning_edges.specs.Edges.{edge_step, EdgesIn, edges_between, EdgesNoted}
 use Rattle.spiller.specs.Instructions.{any_kind, InstructionNoted, DefinitionsNoted, UsesNoted, plain-noted, safepoint-noted}

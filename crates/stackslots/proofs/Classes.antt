@@ -1,17 +1,16 @@
 -- The classes of sizes: what their numbers say, and what a match on a size's class finds.
 use Prim.Native.Nat.{ℕ, ◌^◌, ◌<◌}
 use mathlib.Core.Path.{◌≡◌, refl, sym, ap, subst, ◌∙◌}
-use mathlib.Core.Bool.{Bool, true, false}
 use native.Mathlib.Omega.{arith}
 use lib.Dec.{T}
+use Rattle.std.specs.Prelude.{Some, None}
+use Rattle.std.specs.Option.{is_some}
 use Rattle.rules.specs.Lists.{has}
 use Rattle.rules.specs.Records.{slot_sizes, log2}
 use Rattle.lists.specs.Tests.{test-elim, is_true, is_false}
 use Rattle.slots.specs.Classes.{class_of, index, bytes, log2-bytes, class-of-bytes, class-of-slot-size, no-class}
 use Rattle.slots.specs.declared.SlotSize.{SlotSize}
 use Rattle.slots.specs.declared.SlotSize.TheVariants as slot
-use Rattle.slots.specs.declared.SizeClass.{SizeClass}
-use Rattle.slots.specs.declared.SizeClass.TheVariants as class
 
 -- NUMBERS. Classes of one number have one size.
 class-power : (c : SlotSize) → bytes c ≡ 2 ^ index c
@@ -36,32 +35,22 @@ pub class-number : (size : ℕ) → T (has size slot_sizes) → (class : ℕ) �
 class-number size fits class e =
     let own = class-of-slot-size size fits in (own.0, own.1, e ∙ ap log2 (sym own.1) ∙ log2-bytes own.0)
 
--- A MATCH. The class that it finds, if it finds one
-abbrev in_class : SizeClass → SlotSize
-in_class (class.Class c) = c
-in_class class.NoClass = slot.Size8
+-- A SIZE'S CLASS. There is one exactly where a slot can have the size,
+pub class-known : (size : ℕ) → is_some (class_of size) ≡ has size slot_sizes
+class-known size =
+    test-elim (has size slot_sizes)
+    (λ y.
+    let own = class-of-slot-size size y in
+    ap is_some (ap class_of (sym own.1) ∙ class-of-bytes own.0) ∙ sym (is_true (has size slot_sizes) y))
+    (λ n. ap is_some (no-class size n) ∙ sym (is_false (has size slot_sizes) n))
 
-abbrev is_class : SizeClass → Bool
-is_class (class.Class c) = true
-is_class class.NoClass = false
-
--- where the size is one that a slot can have,
-pub class-found : (size : ℕ) → T (has size slot_sizes) → (c : SlotSize) → class_of size ≡ class.Class c → index c ≡ log2 size
+-- and then its number is the size's logarithm
+pub class-found : (size : ℕ) → T (has size slot_sizes) → (c : SlotSize) → class_of size ≡ Some c → index c ≡ log2 size
 class-found size fits c e =
     let own = class-of-slot-size size fits in
-    let same : own.0 ≡ c = ap in_class (sym (class-of-bytes own.0) ∙ ap class_of own.1 ∙ e) in
+    let found : Some own.0 ≡ Some c = sym (class-of-bytes own.0) ∙ ap class_of own.1 ∙ e in
+    let same : own.0 ≡ c = cc in
     sym (log2-bytes c) ∙ ap log2 (ap bytes (sym same) ∙ own.1)
 
-pub class-missing : (size : ℕ) → T (has size slot_sizes) → class_of size ≡ class.NoClass → ⊥
-class-missing size fits e =
-    let own = class-of-slot-size size fits in
-    subst T (ap is_class (sym (class-of-bytes own.0) ∙ ap class_of own.1 ∙ e)) tt
-
--- and where it is not known
-pub class-sized : (size : ℕ) (c : SlotSize) → class_of size ≡ class.Class c → has size slot_sizes ≡ true
-class-sized size c e =
-    test-elim (has size slot_sizes) (is_true (has size slot_sizes)) (λ n. absurd (subst T (ap is_class (sym e ∙ no-class size n)) tt))
-
-pub class-unsized : (size : ℕ) → class_of size ≡ class.NoClass → has size slot_sizes ≡ false
-class-unsized size e =
-    test-elim (has size slot_sizes) (λ y. absurd (class-missing size y e)) (is_false (has size slot_sizes))
+pub class-missing : (size : ℕ) → T (has size slot_sizes) → class_of size ≡ None → ⊥
+class-missing size fits e = subst T (sym (class-known size) ∙ ap is_some e) fits

@@ -1,11 +1,11 @@
 -- Refusal 9, one value after the other.
-use Prim.Native.Nat.{ℕ, suc, ◌+◌, ◌-◌, ◌<◌, ◌≤◌}
+use Prim.Native.Nat.{ℕ, zero, suc, ◌+◌}
 use mathlib.Core.Path.{◌≡◌, refl, sym, ap, ◌∙◌}
-use mathlib.Core.Bool.{Bool, true, false, not, ◌||◌}
+use mathlib.Core.Bool.{Bool, true, false, not, ◌&&◌, ◌||◌}
 use mathlib.Core.List.{◌∷◌}
 use native.Mathlib.Omega.{arith}
-use native.Mathlib.Numerals.{add-one}
 use lib.ListN.{length}
+use Rattle.std.specs.List.{list_all, range_with_len}
 use Rattle.rules.specs.Lists.{any, keep, has, up_from}
 use Rattle.rules.specs.Tree.{Function}
 use Rattle.rules.specs.Records.{slot_sizes}
@@ -41,23 +41,19 @@ module _ (f : Function) where
       go true = refl
       go false = refl
 
-  module _ (v values : ℕ) where
-    unsized-next : v < values → unsized_from f v (values - v) ≡ not (slot_sized f v) || unsized_from f (v + 1) (values - (v + 1))
-    unsized-next l =
-        let left : values - v ≡ suc (values - suc v) = omega arith in
-        rw (add-one v) (ap (unsized_from f v) left ∙ unsized-more v (values - suc v))
-
-    pub unsized-found : v < values → not (slot_sized f v) ≡ true → unsized_from f v (values - v) ≡ true
-    unsized-found l e = unsized-next l ∙ ap (λ b. b || unsized_from f (v + 1) (values - (v + 1))) e
-
-    pub unsized-passed : v < values → not (slot_sized f v) ≡ false → unsized_from f (v + 1) (values - (v + 1)) ≡ unsized_from f v (values - v)
-    unsized-passed l e = sym (unsized-next l ∙ ap (λ b. b || unsized_from f (v + 1) (values - (v + 1))) e)
-
-    -- none is left
-    pub unsized-end : values ≤ v → unsized_from f v (values - v) ≡ false
-    unfolding unsized_from
-    unsized-end l = let left : values - v ≡ 0 = omega arith in rw left
-
-  pub unsized-all : unsized_from f 0 (length f.values) ≡ spilled_size f
+  -- all are so where none is not
+  sized-from : (v k : ℕ) → list_all (slot_sized f) (range_with_len v k) ≡ not (unsized_from f v k)
   unfolding unsized_from
-  unsized-all = refl
+  sized-from v zero = refl
+  sized-from v (suc k) =
+      let next : v + 1 ≡ suc v = omega arith in
+      ap (λ b. slot_sized f v && b) (ap (λ (w : ℕ). list_all (slot_sized f) (range_with_len w k)) next ∙ sized-from (suc v) k)
+      ∙ both (slot_sized f v) (unsized_from f (suc v) k) ∙ sym (ap not (unsized-more v k))
+    where
+      both : (a b : Bool) → a && not b ≡ not (not a || b)
+      both true b = refl
+      both false b = refl
+
+  pub sized-all : list_all (slot_sized f) (range_with_len 0 (length f.values)) ≡ not (spilled_size f)
+  unfolding unsized_from
+  sized-all = sized-from 0 (length f.values)

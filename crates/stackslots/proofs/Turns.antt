@@ -81,11 +81,10 @@ module _ (s steps : List ℕ) (i : ℕ) (t : SlotTables) (h : Turn s steps i t) 
           (omega (arith, give-fits.0, h.room.tags), left)
 
       pub turned-made :
-          get_or t.heads class 0 ≡ 0 → (tags' : List ℕ) (made' : ℕ) → (made' ≡ t.made + 1) × (tags' ≡ set t.tags v (t.made + 1))
-          → Turned s steps i t (slot_tables t.heads t.older tags' made')
-      turned-made empty tags' made' e =
+          get_or t.heads class 0 ≡ 0 → (t' : SlotTables) → t' ≡ slot_tables t.heads t.older (set t.tags v (t.made + 1)) (t.made + 1) → Turned s steps i t t'
+      turned-made empty t' e =
           let none_free : get_or t.heads (index given-class.0) 0 ≡ 0 = ap (λ k. get_or t.heads k 0) (sym given-class.2) ∙ empty in
-          rw (e.0, e.1)
+          rw e
           (record {
             stands = rw give-next (stands_on (stands-made h.stands h.room v (size_of f v) give-fits.0 give-fits.1 given-class.0 given-class.1 bare none_free));
             long = record { heads = refl; older = refl; tags = length-set t.tags v _ };
@@ -107,13 +106,14 @@ module _ (s steps : List ℕ) (i : ℕ) (t : SlotTables) (h : Turn s steps i t) 
             )
 
         pub turned_taken :
-            (heads' tags' : List ℕ)
-            → (heads' ≡ set t.heads class (get_or t.older (get_or t.heads class 0 - 1) 0))
-            × (tags' ≡ set t.tags v (get_or t.tags (value_of steps (get_or t.heads class 0 - 1)) 0))
-            → Turned s steps i t (slot_tables heads' t.older tags' t.made)
-        turned_taken heads' tags' e =
+            (t' : SlotTables)
+            → t'
+            ≡ slot_tables (set t.heads class (get_or t.older (get_or t.heads class 0 - 1) 0)) t.older
+            (set t.tags v (get_or t.tags (value_of steps (get_or t.heads class 0 - 1)) 0)) t.made
+            → Turned s steps i t t'
+        turned_taken t' e =
             let first : 0 < get_or t.heads (index given-class.0) 0 = subst (λ k. 0 < get_or t.heads k 0) given-class.2 some-free in
-            rw (e.0, e.1, given-class.2)
+            rw (e, given-class.2)
             (record {
               stands = rw give-next (stands_on (stands-taken h.stands h.room v (size_of f v) give-fits.0 give-fits.1 given-class.0 given-class.1 bare first));
               long = record { heads = length-set t.heads (index given-class.0) _; older = refl; tags = length-set t.tags v _ };
@@ -146,11 +146,10 @@ module _ (s steps : List ℕ) (i : ℕ) (t : SlotTables) (h : Turn s steps i t) 
         freed-class = class-number (size_of f v) free-fits.1 class (number ∙ ap log2 sized)
 
         pub turned-freed :
-            (heads' older' : List ℕ) → (heads' ≡ set t.heads class (i + 1)) × (older' ≡ set t.older i (get_or t.heads class 0))
-            → Turned s steps i t (slot_tables heads' older' t.tags t.made)
-        turned-freed heads' older' e =
+            (t' : SlotTables) → t' ≡ slot_tables (set t.heads class (i + 1)) (set t.older i (get_or t.heads class 0)) t.tags t.made → Turned s steps i t t'
+        turned-freed t' e =
             let same = free-next ∙ ap (λ (o : Option ℕ). free_own (size_of f v) o before) slot-there in
-            rw (e.0, e.1, freed-class.2)
+            rw (e, freed-class.2)
             (record {
               stands =
                   rw same

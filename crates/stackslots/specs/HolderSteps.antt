@@ -1,9 +1,9 @@
 -- THE TABLE OF HOLDERS AFTER THE NOTED STEPS, where each step's place is the slot that it is about: what one step keeps
 -- holds after all of them, of the table and of the slots together.
-use Prim.Native.Nat.{ℕ, zero, suc, ◌-◌, ◌/◌, ◌%◌, ◌<◌, ◌≤◌}
-use Rattle.std.specs.Prelude.{◌≡◌, Bool, true, false, cond, not, ◌&&◌, List, length, get_or, set, replicate, T, eqb}
+use Prim.Native.Nat.{ℕ, zero, suc, ◌/◌, ◌%◌, ◌<◌, ◌≤◌}
+use Rattle.std.specs.Prelude.{◌≡◌, Bool, true, false, cond, List, length, get_or, set, replicate, T, eqb}
 use Rattle.std.proofs.Math.Path.{refl}
-use Rattle.std.proofs.Common.{sym, ap, subst, ◌∙◌, arith, ne_eqb}
+use Rattle.std.proofs.Common.{sym, ap, subst, ◌∙◌, arith}
 use Rattle.std.proofs.Math.Option.{Option, none, some}
 use Rattle.std.proofs.lemmas.List.{length-replicate}
 use Rattle.rules.specs.Limits.{largest_values}
@@ -19,6 +19,7 @@ use Rattle.rows.specs.Rows.{row_values}
 use Rattle.numbering.specs.Beside.{tag}
 use Rattle.planning.specs.Standing.{noted, slots_by}
 use Rattle.holders.specs.declared.Holder.{Holder}
+use Rattle.holders.specs.declared.Change.TheVariants as change
 use Rattle.holders.specs.Table.{nobody, taken_by, given_back, changed, change_of, holders_after, Replayable}
 use Rattle.holders.specs.Replays.{length-after}
 use Rattle.stackslots.specs.Tables.{value_of, new_slot, slots_after, placed}
@@ -40,14 +41,12 @@ pub changed-at :
     (step slot size : ℕ) (table : List Holder)
     → changed (change_of step (suc slot) size) table
     ≡ cond (eqb (step % 2) 0) (set table slot (taken_by (get_or table slot nobody) (step / 2) size)) (set table slot (given_back (get_or table slot nobody)))
-changed-at step slot size table =
-    let some-place = ne_eqb (suc slot) 0 (λ e. omega (arith, e)) in
-    let here : suc slot - 1 ≡ slot = omega arith in
-    rw (some-place, here) (go (eqb (step % 2) 0) (set table slot (taken_by (get_or table slot nobody) (step / 2) size)) (set table slot (given_back (get_or table slot nobody))))
+changed-at step slot size table = go (eqb (step % 2) 0)
   where
-    go : (even : Bool) (x y : List Holder) → cond (not false && even) x (cond (not false && not even) y table) ≡ cond even x y
-    go true x y = refl
-    go false x y = refl
+    go : (even : Bool) → changed (cond even (change.Takes slot (step / 2) size) (change.Gives slot)) table
+        ≡ cond even (set table slot (taken_by (get_or table slot nobody) (step / 2) size)) (set table slot (given_back (get_or table slot nobody)))
+    go true = refl
+    go false = refl
 
 -- so an even one takes it, and an odd one gives it back
 module _ (step slot size : ℕ) (table : List Holder) where

@@ -16,6 +16,7 @@ use Rattle.graph.specs.Zeros.{Zeros}
 use Rattle.rows.specs.Rows.{row_values}
 use Rattle.numbering.specs.Beside.{made, tag}
 use Rattle.planning.specs.Standing.{slots_by}
+use Rattle.stackslots.specs.declared.freelists.StackSlots.{StackSlots as StackSlots'}
 
 -- By class the tag of the list's last node, by node the tag of the older one, by value the tag of its slot; and how many
 -- slots are made.
@@ -27,6 +28,16 @@ pub record SlotTables : Type 0 where
 
 abbrev pub slot_tables : List ℕ → List ℕ → List ℕ → ℕ → SlotTables
 slot_tables heads older tags made = record { heads = heads; older = older; tags = tags; made = made }
+
+-- those of the Rust's struct
+abbrev pub tables : StackSlots' → SlotTables
+tables slots = slot_tables slots.heads.now slots.older.now slots.tags.now slots.made
+
+-- which stand where they stood: each of its references is the one that it was made of
+pub record SameLent (old new : StackSlots') : Type 0 where
+  pub heads : new.heads.ghost_name ≡ old.heads.ghost_name
+  pub older : new.older.ghost_name ≡ old.older.ghost_name
+  pub tags : new.tags.ghost_name ≡ old.tags.ghost_name
 
 -- the value that a step names
 abbrev pub value_of : List ℕ → ℕ → ℕ

@@ -6,45 +6,44 @@ ghost use Rattle.rows.specs.Rows.{row_values};
 ghost use Rattle.stackslots.specs.Tables.{Lent, Replayed};
 ghost use Rattle.stackslots.specs.SlotSizes.{sizes_over};
 
-use crate::placing::find_places;
-use holders::Holder;
-use holders::table::replayed;
+use crate::freelists::StackSlots;
+use holders::{Holder, table};
+use records::file::File;
 use rules::{LARGEST_RECORDS, LARGEST_VALUES};
 
-// The sizes of the first slots of the table, as numbers.
-fn sizes_of(table: [Holder; LARGEST_VALUES], made: usize, sizes: &mut [u32])
-    requires { (made ≤ largest_values) × (made ≤ length sizes.old) }
-    ensures { sizes.new ≡ sizes_over table made sizes.old }
+// The sizes of the slots that a table is of, as numbers.
+fn sizes_of(table: &[Holder], sizes: &mut [u32])
+    requires { length table.now ≤ length sizes.old }
+    ensures { sizes.new ≡ sizes_over table.now (length table.now) sizes.old }
 {
-    let mut k: usize = 0;
-    while k < made {
-        let h = table[k];
+    for (k, h) in table.iter().enumerate() {
         sizes[k] = h.size;
-        k += 1;
     }
 }
 
 // All steps, over tables of zeros: each value's slot, and the sizes of the slots. Answers how many slots there are.
-pub fn replay<'a>(
-    s: &'a [u8],
-    steps: &'a [u32],
-    count: usize,
+pub fn replay(
+    file: File<'_>,
+    steps: &[u32],
     heads: &mut [usize],
     older: &mut [usize],
     tags: &mut [u32],
     sizes: &mut [u32],
 ) -> usize
-    requires { Lent s.now steps.now count heads.old older.old tags.old × (count ≤ largest_values + largest_records) × (row_values ≤ length sizes.old) }
-    ensures { Replayed s.now steps.now count heads.old older.old tags.old sizes.old result heads.new older.new tags.new sizes.new }
+    requires { Lent file.bytes.now steps.now (length steps.now) heads.old older.old tags.old × (length steps.now ≤ largest_values + largest_records) × (row_values ≤ length sizes.old) }
+    ensures { Replayed file.entry.bytes.now steps.now (length steps.now) heads.old older.old tags.old sizes.old result heads.new older.new tags.new sizes.new }
 {
     let mut places: [u32; LARGEST_VALUES + LARGEST_RECORDS] = [0; LARGEST_VALUES + LARGEST_RECORDS];
-    let made = find_places(s, steps, count, heads, older, tags, &mut places);
-    let nobody = Holder {
-        size: 0,
-        owner: 0,
-        held: false,
+    let mut slots = StackSlots {
+        heads,
+        older,
+        tags,
+        made: 0,
     };
-    let table = replayed(s, steps, &places, count, [nobody; LARGEST_VALUES]);
-    sizes_of(table, made, sizes);
+    slots.find_places(file, steps, &mut places);
+    let made = slots.made;
+    let mut holders = [Holder::default(); LARGEST_VALUES];
+    table::replay(file, steps, &places, &mut holders);
+    sizes_of(&holders[..made], sizes);
     made
 }

@@ -2,10 +2,10 @@
 -- statements, and any two outcomes that one allows are equal.
 use Rattle.std.specs.Prelude.{ℕ, ◌≡◌, List}
 use Rattle.std.proofs.Common.{sym, ◌∙◌}
-use Rattle.rules.specs.Refusals.{refusal_number, first_of, file_refusals}
+use Rattle.rules.specs.Refusals.{first_of, file_refusals}
 use Rattle.rules.specs.Services.{liveness_answer, liveness_ins, liveness_outs, list_answer, list_words}
 use Rattle.rules.specs.Services.{rewriting_answer, rewriting_output}
-use Rattle.threshskiff.specs.Numbers.{liveness_numbers, list_numbers, rewriting_numbers, final_part}
+use Rattle.threshskiff.specs.Numbers.{check_number, liveness_numbers, list_numbers, rewriting_numbers, final_part}
 use Rattle.threshskiff.specs.declared.ThreshskiffLiveness.{ThreshskiffLiveness}
 use Rattle.threshskiff.specs.declared.ThreshskiffList.{ThreshskiffList}
 use Rattle.threshskiff.specs.declared.ThreshskiffRewriting.{ThreshskiffRewriting}
@@ -13,7 +13,7 @@ use Rattle.threshskiff.specs.declared.ThreshskiffFinal.{ThreshskiffFinal}
 
 -- what `threshskiff_check` may answer of file s
 abbrev pub CheckAllows : List ℕ → ℕ → Type 0
-CheckAllows s refusal = refusal ≡ refusal_number (first_of (file_refusals s))
+CheckAllows s refusal = refusal ≡ check_number (first_of (file_refusals s))
 
 pub check-outcomes-equal : (s : List ℕ) {a b : ℕ} → CheckAllows s a → CheckAllows s b → a ≡ b
 check-outcomes-equal s x y = x ∙ sym y

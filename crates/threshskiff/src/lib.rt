@@ -3,14 +3,13 @@
 #![tactic(auto)]
 
 ghost use Rattle.std.specs.Prelude.{◌≡◌, length};
-ghost use Rattle.rules.specs.Records.{bit};
-ghost use Rattle.threshskiff.specs.Numbers.{verdict_of};
+ghost use Rattle.rules.specs.Refusals.{needed};
+ghost use Rattle.threshskiff.specs.Numbers.{answer_of};
 ghost use Rattle.threshskiff.specs.Outcomes.{CheckAllows, LivenessAllows, ListAllows, RewritingAllows, FinalAllows};
 
-use acceptance::verdict::refusal_number;
 use finals::final_records;
 use rewriter::rewrite;
-use rules::{RewritingAnswer, Verdict};
+use rules::{Refusal, RewritingAnswer};
 use services::check::check_file;
 use services::list::list;
 use services::liveness::liveness;
@@ -58,8 +57,10 @@ pub struct ThreshskiffFinal {
 pub fn threshskiff_check(file: &[u8]) -> u32
     ensures { CheckAllows file.now result }
 {
-    let verdict = check_file(file);
-    refusal_number(verdict)
+    match check_file(file) {
+        Ok(()) => 0,
+        Err(refusal) => u32::from(refusal),
+    }
 }
 
 // Liveness: both live tables, visits and pushes.
@@ -70,12 +71,17 @@ pub fn threshskiff_liveness(
 ) -> ThreshskiffLiveness
     ensures { LivenessAllows file.now (length live_in.old) (length live_out.old) result live_in.new live_out.new }
 {
-    let live = liveness(file, live_in, live_out);
-    let verdict = live.verdict;
-    ThreshskiffLiveness {
-        refusal: refusal_number(verdict),
-        visits: live.visits,
-        pushes: live.pushes,
+    match liveness(file, live_in, live_out) {
+        Ok(live) => ThreshskiffLiveness {
+            refusal: 0,
+            visits: live.visits,
+            pushes: live.pushes,
+        },
+        Err(refusal) => ThreshskiffLiveness {
+            refusal: u32::from(refusal),
+            visits: 0,
+            pushes: 0,
+        },
     }
 }
 
@@ -83,22 +89,23 @@ pub fn threshskiff_liveness(
 pub fn threshskiff_list(file: &[u8], instruction: u32, numbers: &mut [u32]) -> ThreshskiffList
     ensures { ListAllows file.now instruction (length numbers.old) result numbers.new }
 {
-    let listed = list(file, instruction, numbers);
-    let verdict = listed.verdict;
-    ThreshskiffList {
-        refusal: refusal_number(verdict),
-        count: listed.count,
+    match list(file, instruction, numbers) {
+        Ok(count) => ThreshskiffList { refusal: 0, count },
+        Err(refusal) => ThreshskiffList {
+            refusal: u32::from(refusal),
+            count: needed(refusal),
+        },
     }
 }
 
-// 1 for true, 0 for false.
-fn one_if(b: bool) -> u32
-    ensures { result ≡ bit b }
+// The length needed, which 11 tells.
+fn needed(refusal: Refusal) -> u32
+    ensures { result ≡ needed refusal }
 {
-    if b {
-        return 1;
+    match refusal {
+        Refusal::TooShort(needed) => needed,
+        _ => 0,
     }
-    0
 }
 
 // Rewriting: the rewritten records, and what they count.
@@ -109,27 +116,43 @@ pub fn threshskiff_rewrite(
 ) -> ThreshskiffRewriting
     ensures { RewritingAllows file.now pointer_size (length output.old) result output.new }
 {
-    let rewritten = rewrite(file, pointer_size, output);
-    let verdict = rewritten.verdict;
-    ThreshskiffRewriting {
-        refusal: refusal_number(verdict),
-        records: rewritten.records,
-        slots: rewritten.slots,
-        landings: rewritten.landings,
-        visits: rewritten.visits,
-        pushes: rewritten.pushes,
-        unchanged: one_if(rewritten.unchanged),
+    match rewrite(file, pointer_size, output) {
+        Ok(rewritten) => ThreshskiffRewriting {
+            refusal: 0,
+            records: rewritten.records,
+            slots: rewritten.slots,
+            landings: rewritten.landings,
+            visits: rewritten.visits,
+            pushes: rewritten.pushes,
+            unchanged: u32::from(rewritten.unchanged),
+        },
+        Err(refusal) => ThreshskiffRewriting {
+            refusal: u32::from(refusal),
+            records: needed(refusal),
+            slots: 0,
+            landings: 0,
+            visits: 0,
+            pushes: 0,
+            unchanged: 0,
+        },
     }
 }
 
-// The verdict of an answer by the number of its refusal: any number but 0 refuses.
-fn verdict_of(refusal: u32) -> Verdict
-    ensures { result ≡ verdict_of refusal }
+// The answer that any numbers stand for: any refusal but 0 refuses.
+fn answer_of(numbers: ThreshskiffRewriting) -> Result<RewritingAnswer, Refusal>
+    ensures { result ≡ answer_of numbers }
 {
-    if refusal == 0 {
-        return Verdict::Accepted;
+    if numbers.refusal != 0 {
+        return Err(Refusal::Malformed);
     }
-    Verdict::Malformed
+    Ok(RewritingAnswer {
+        records: numbers.records,
+        slots: numbers.slots,
+        landings: numbers.landings,
+        visits: numbers.visits,
+        pushes: numbers.pushes,
+        unchanged: numbers.unchanged != 0,
+    })
 }
 
 // Where the final records of an answer are, whatever its numbers are: at the front of the input, where it says "unchanged" by any
@@ -141,19 +164,9 @@ pub fn threshskiff_final<'a>(
 ) -> ThreshskiffFinal
     ensures { FinalAllows answer input.now output.now result }
 {
-    let unchanged = answer.unchanged;
-    let said = RewritingAnswer {
-        verdict: verdict_of(answer.refusal),
-        records: answer.records,
-        slots: answer.slots,
-        landings: answer.landings,
-        visits: answer.visits,
-        pushes: answer.pushes,
-        unchanged: unchanged != 0,
-    };
-    let part = final_records(said, input, output);
+    let part = final_records(answer_of(answer), input, output);
     ThreshskiffFinal {
-        of_output: one_if(unchanged == 0),
+        of_output: u32::from(answer.unchanged == 0),
         offset: 0,
         length: part.len(),
     }

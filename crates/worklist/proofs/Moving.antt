@@ -1,5 +1,5 @@
 -- A push on a worklist, of a block that its mark says is not there and of one that is; and a pop.
-use Prim.Native.Nat.{ℕ, ◌+◌, ◌-◌, ◌%◌, ◌^◌, ◌<◌, ◌≤◌}
+use Prim.Native.Nat.{ℕ, suc, ◌+◌, ◌-◌, ◌%◌, ◌^◌, ◌<◌, ◌≤◌}
 use native.Mathlib.Omega.{arith}
 use native.Mathlib.Numerals.{add-one}
 use mathlib.Core.Path.{◌≡◌, refl, sym, ap, subst, ◌∙◌}
@@ -18,17 +18,17 @@ use Rattle.worklist.specs.Entries.{entries, Stacked, Marked, Kept, stacked-lengt
 use Rattle.worklist.specs.declared.Worklist.{Worklist}
 use Rattle.worklist.proofs.Marks.{marked-put, marked-moved, marked-taken}
 use Rattle.worklist.proofs.Places.{length-entries, entries-top}
-use Rattle.worklist.proofs.Raising.{stack, stack_set, Raising, raising-start, raising-done, has_some}
+use Rattle.worklist.proofs.Raising.{stack, stack_set, Raising, raising-start, raising-done}
+
+-- there are no more entries than places
+pub kept-fits : (w : Worklist) → Kept w → w.count ≤ largest_blocks
+kept-fits w kept = omega (arith, stacked-length (entries w) kept.stacked, length-entries w)
 
 -- A PUSH
 module _ (w : Worklist) (b : ℕ) (kept : Kept w) (l : b < largest_blocks) where
   -- the mark is the test for the entry
   marked-has : bit_at w.pending (b % 64) ≡ has b (entries w)
   marked-has = let own : b % 64 ≡ b = omega arith in ap (bit_at w.pending) own ∙ kept.marked b l
-
-  -- there are no more entries than places
-  count_fits : w.count ≤ largest_blocks
-  count_fits = omega (arith, stacked-length (entries w) kept.stacked, length-entries w)
 
   -- a worklist of the entries moved, with their marks, is what a push promises
   pushed :
@@ -77,33 +77,29 @@ module _ (w : Worklist) (b : ℕ) (kept : Kept w) (l : b < largest_blocks) where
     there_has : T (has b (entries w))
     there_has = subst T (sym in-it ∙ marked-has) tt
 
-    pub moved-some : 0 < w.count
+    pub moved-start : Raising b w.blocks w.count b w.count w.blocks
     unfolding entries
-    moved-some = has_some b w.blocks w.count there_has
-
-    pub moved-start : length w.blocks ≡ largest_blocks → Raising b w.blocks w.count b (w.count - 1) w.blocks
-    unfolding entries
-    moved-start long = raising-start b w.blocks w.count moved-some (omega (arith, count_fits)) there_has
+    moved-start = raising-start b w.blocks w.count there_has
 
     -- and the marks stay.
     pub moved_pushed :
-        (carried i : ℕ) (t : List ℕ) → Raising b w.blocks w.count carried i t → get_or t i 0 ≡ b → length w.blocks ≡ largest_blocks
-        → let r : Worklist = record { blocks = set t i carried; count = w.count; pending = w.pending } in
+        (carried k : ℕ) (t : List ℕ) → Raising b w.blocks w.count carried k t → get_or t (k - 1) 0 ≡ b → length w.blocks ≡ largest_blocks
+        → let r : Worklist = record { blocks = set t (k - 1) carried; count = w.count; pending = w.pending } in
         (entries r ≡ move_to_top b (entries w)) × Kept r
     unfolding entries
-    moved_pushed carried i t h found long =
-        pushed _ (raising-done b w.blocks w.count carried i t h found (omega (arith, count_fits)) there_has kept.stacked.once)
+    moved_pushed carried k t h found long =
+        pushed _ (raising-done b w.blocks w.count carried k t h found (omega (arith, kept-fits w kept)) there_has kept.stacked.once)
         (marked-moved b w.pending (entries w) there_has kept.marked)
 
 -- A POP takes the top off, and its mark.
 pub popped-kept :
-    (w : Worklist) → Kept w → 0 < w.count → (b only : ℕ) → b ≡ get_or w.blocks (w.count - 1) 0 → only ≡ 2 ^ (b % 64)
-    → let r : Worklist = record { blocks = w.blocks; count = w.count - 1; pending = bit_and w.pending (2 ^ 64 - 1 - only) } in
+    (w : Worklist) → Kept w → (top b only : ℕ) → w.count ≡ suc top → b ≡ get_or w.blocks top 0 → only ≡ 2 ^ (b % 64)
+    → let r : Worklist = record { blocks = w.blocks; count = top; pending = bit_and w.pending (2 ^ 64 - 1 - only) } in
     (entries w ≡ b ∷ entries r) × Kept r
-popped-kept w kept some b only is e =
+popped-kept w kept last b only some is e =
     let marks = bit_and w.pending (2 ^ 64 - 1 - only) in
-    let r : Worklist = record { blocks = w.blocks; count = w.count - 1; pending = marks } in
-    let top : entries w ≡ b ∷ entries r = entries-top w marks some ∙ ap (λ x. x ∷ entries r) (sym is) in
+    let r : Worklist = record { blocks = w.blocks; count = last; pending = marks } in
+    let top : entries w ≡ b ∷ entries r = entries-top w marks last some ∙ ap (λ x. x ∷ entries r) (sym is) in
     let stacked : Stacked (b ∷ entries r) = subst Stacked top kept.stacked in (
       top,
       record {

@@ -85,54 +85,47 @@ raise-stack b carried t (suc i) l h d =
         (lower ∙ ap (λ r. x ∷ remove b r) (stack-below t i carried))
         ∙ ap (λ r. carried ∷ r) (sym (remove-other b x (stack t i) other))
 
--- THE LOOP at place i: the number stands there or below, and what is left to do leads to the table that is sought.
-pub record Raising (b : ℕ) (old : List ℕ) (n carried i : ℕ) (t : List ℕ) : Type 0 where
-  pub inside : i < length t
+-- THE LOOP with k places left: the number stands there, and what is left to do leads to the table that is sought.
+pub record Raising (b : ℕ) (old : List ℕ) (n carried k : ℕ) (t : List ℕ) : Type 0 where
   pub long : length t ≡ length old
-  pub stands : T (has b (stack t (suc i)))
-  pub rest : raise b carried t (suc i) ≡ raise b b old n
+  pub stands : T (has b (stack t k))
+  pub rest : raise b carried t k ≡ raise b b old n
 
--- at first it is the place on top
-pub raising-start :
-    (b : ℕ) (old : List ℕ) (n : ℕ) → 0 < n → n ≤ length old → T (has b (stack old n)) → Raising b old n b (n - 1) old
-raising-start b old n some room h =
-    let last : n ≡ suc (n - 1) = omega arith in
-    record {
-      inside = omega arith;
-      long = refl;
-      stands = subst (λ k. T (has b (stack old k))) last h;
-      rest = ap (raise b b old) (sym last);
-    }
+-- at first all are left
+pub raising-start : (b : ℕ) (old : List ℕ) (n : ℕ) → T (has b (stack old n)) → Raising b old n b n old
+raising-start b old n h = record { long = refl; stands = h; rest = refl }
 
 -- where a number stands among the first k places, there is one
 pub has_some : (b : ℕ) (t : List ℕ) (k : ℕ) → T (has b (stack t k)) → 0 < k
 has_some b t zero h = absurd h
 has_some b t (suc k) h = omega arith
 
-module _ (b : ℕ) (old : List ℕ) (n carried i : ℕ) (t : List ℕ) (h : Raising b old n carried i t) where
-  -- where another number stands there, the next place is one lower;
-  module _ (ne : get_or t i 0 ≢ b) where
-    other : T (not (eqb (get_or t i 0) b))
-    other = not_T (eqb (get_or t i 0) b) (λ e. ne (eqb→eq (get_or t i 0) b e))
+module _ (b : ℕ) (old : List ℕ) (n carried k : ℕ) (t : List ℕ) (h : Raising b old n carried k t) where
+  abbrev i : ℕ
+  i = k - 1
 
-    pub raising-lower : 0 < i
-    raising-lower = has_some b t i (below-passed b t i other h.stands)
+  last : k ≡ suc i
+  last = omega (arith, has_some b t k h.stands)
 
-    pub raising-more : Raising b old n (get_or t i 0) (i - 1) (set t i carried)
-    raising-more =
-        let next : i ≡ suc (i - 1) = omega (arith, raising-lower) in
-        record {
-          inside = omega (arith, h.inside, length-set t i carried);
-          long = length-set t i carried ∙ h.long;
-          stands =
-              subst (λ k. T (has b (stack (set t i carried) k))) next
-              (subst (λ r. T (has b r)) (sym (stack-below t i carried)) (below-passed b t i other h.stands));
-          rest = ap (raise b (get_or t i 0) (set t i carried)) (sym next) ∙ sym (raise-passed b carried t i other) ∙ h.rest;
-        }
+  stands_last : T (has b (stack t (suc i)))
+  stands_last = subst (λ j. T (has b (stack t j))) last h.stands
+
+  rest_last : raise b carried t (suc i) ≡ raise b b old n
+  rest_last = ap (raise b carried t) (sym last) ∙ h.rest
+
+  -- where another number stands at the last of them, it is left below;
+  pub raising-more : get_or t i 0 ≢ b → Raising b old n (get_or t i 0) i (set t i carried)
+  raising-more ne =
+      let other : T (not (eqb (get_or t i 0) b)) = not_T (eqb (get_or t i 0) b) (λ e. ne (eqb→eq (get_or t i 0) b e)) in
+      record {
+        long = length-set t i carried ∙ h.long;
+        stands = subst (λ r. T (has b r)) (sym (stack-below t i carried)) (below-passed b t i other stands_last);
+        rest = sym (raise-passed b carried t i other) ∙ rest_last;
+      }
 
   -- where it is the number, what is carried is written there, and that is all.
   pub raising-done :
       get_or t i 0 ≡ b → n ≤ length old → T (has b (stack old n)) → Nodup (stack old n)
       → stack (set t i carried) n ≡ move_to_top b (stack old n)
   raising-done e room s d =
-      ap (λ r. stack r n) (sym (raise-found b carried t i (eq→eqb e)) ∙ h.rest) ∙ raise-stack b b old n room s d
+      ap (λ r. stack r n) (sym (raise-found b carried t i (eq→eqb e)) ∙ rest_last) ∙ raise-stack b b old n room s d

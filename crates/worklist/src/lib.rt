@@ -1,12 +1,10 @@
 // The worklist of liveness: a stack in which pushing moves a block to the top, so that as many places do as there can be
 // blocks. `entries` of specs/Entries.antt is what stands on it, top first; a mark for each block says whether it does, so that a push
-// looks only for a block that is there. It is changed where it stands, by `push` and `pop`, which are thin: a by-value core does the
-// work. `pushing` and `popping` take a worklist by value, for callers that lend nothing.
+// looks only for a block that is there.
 #![tactic(auto)]
 
-ghost use Rattle.std.specs.Prelude.{◌≡◌, false, ◌∷◌, ◌<◌, ◌≤◌, length, take};
+ghost use Rattle.std.specs.Prelude.{◌≡◌, [], ◌∷◌, ◌<◌, MatchOption};
 ghost use Rattle.rules.specs.Limits.{largest_blocks};
-ghost use Rattle.rules.specs.Lists.{empty};
 ghost use Rattle.fixpoint.specs.Removal.{move_to_top};
 ghost use Rattle.worklist.specs.Entries.{entries, Stacked, Kept};
 
@@ -14,7 +12,7 @@ use rows::{bit_of, has_bit};
 use rules::LARGEST_BLOCKS;
 
 // The blocks, the lowest entry first, how many of the places are entries, and the marks: bit b is set where block b is an entry.
-// A block's number fits a byte.
+// A block's number fits a byte. An array with its count, since memory is fixed (document 01).
 #[derive(Clone, Copy)]
 pub struct Worklist {
     blocks: [u8; LARGEST_BLOCKS],
@@ -22,102 +20,46 @@ pub struct Worklist {
     pending: u64,
 }
 
-// The entry that stood on top, and the others.
-#[derive(Clone, Copy)]
-pub struct Popped {
-    pub block: usize,
-    pub rest: Worklist,
-}
-
-// A byte, as a number of any block.
-fn wide(x: u8) -> usize
-    ensures { result ≡ x }
-{
-    x as usize
-}
-
 impl Worklist {
-    // The first so many blocks of a list, its first on top: as if the last of them were pushed first.
-    pub fn stacked(order: &[usize], count: usize) -> Worklist
-        requires { (count ≤ length order.now) × Stacked (take count order.now) }
-        ensures { (entries result ≡ take count order.now) × Kept result }
+    // The blocks of a list, its first on top: the last of them is pushed first.
+    pub fn stacked(order: &[usize]) -> Worklist
+        requires { Stacked order.now }
+        ensures { (entries result ≡ order.now) × Kept result }
     {
-        let mut blocks = [0u8; LARGEST_BLOCKS];
-        let mut filled: usize = 0;
-        let mut pending: u64 = 0;
-        let mut i = count;
-        while i > 0 {
-            i -= 1;
-            let block = order[i];
-            blocks[filled] = block as u8;
-            filled += 1;
-            pending = pending | bit_of(block);
+        let mut list = Worklist {
+            blocks: [0; LARGEST_BLOCKS],
+            count: 0,
+            pending: 0,
+        };
+        for i in (0..order.len()).rev() {
+            list.push(order[i]);
         }
-        Worklist {
-            blocks,
-            count: filled,
-            pending,
-        }
+        list
     }
 
-    // Whether no block is left to visit.
-    pub fn is_empty(self) -> bool
-        ensures { result ≡ empty (entries self) }
-    {
-        self.count == 0
-    }
-
-    // The core of a push: the block moves to the top, or is put there. What stands above a block that is there goes one place down,
-    // and nothing below it is read.
-    fn moved_to_top(self, block: usize) -> Worklist
+    // The core of a push, by value as document 01 has it: the block moves to the top, or is put there. What stands above a block that
+    // is there goes one place down, and nothing below it is read.
+    fn moved_to_top(mut self, block: usize) -> Worklist
         requires { Kept self × (block < largest_blocks) }
         ensures { (entries result ≡ move_to_top block (entries self)) × Kept result }
     {
-        let mut blocks = self.blocks;
-        let count = self.count;
-        let pending = self.pending;
         let b = block as u8;
-        if !has_bit(pending, block) {
-            blocks[count] = b;
-            let filled = count + 1;
-            return Worklist {
-                blocks,
-                count: filled,
-                pending: pending | bit_of(block),
-            };
+        if !has_bit(self.pending, block) {
+            self.blocks[self.count] = b;
+            self.count += 1;
+            self.pending |= bit_of(block);
+            return self;
         }
         let mut carried = b;
-        let mut i = count - 1;
-        while blocks[i] != b {
-            let x = blocks[i];
-            blocks[i] = carried;
-            carried = x;
-            i -= 1;
+        for i in (0..self.count).rev() {
+            let below = self.blocks[i];
+            self.blocks[i] = carried;
+            if below == b {
+                return self;
+            }
+            carried = below;
         }
-        blocks[i] = carried;
-        Worklist {
-            blocks,
-            count,
-            pending,
-        }
-    }
-
-    // The core of a pop: the entry on top is taken off, and its mark.
-    fn popped(self) -> Popped
-        requires { Kept self × (empty (entries self) ≡ false) }
-        ensures { (entries self ≡ result.block ∷ entries result.rest) × Kept result.rest }
-    {
-        let blocks = self.blocks;
-        let top = self.count - 1;
-        let block = wide(blocks[top]);
-        Popped {
-            block,
-            rest: Worklist {
-                blocks,
-                count: top,
-                pending: self.pending & !bit_of(block),
-            },
-        }
+        self
     }
 
     // The block moves to the top of the worklist that is lent, or is put there.
@@ -128,31 +70,15 @@ impl Worklist {
         *self = self.moved_to_top(block);
     }
 
-    // The entry on top is taken off the worklist that is lent, where there is one.
-    pub fn pop(&mut self) -> usize
-        requires { Kept self.old × (empty (entries self.old) ≡ false) }
-        ensures { (entries self.old ≡ result ∷ entries self.new) × Kept self.new }
+    // The entry on top is taken off, where there is one, and its mark.
+    pub fn pop(&mut self) -> Option<usize>
+        requires { Kept self.old }
+        ensures { MatchOption result ((entries self.old ≡ []) × (self.new ≡ self.old)) (λ block. entries self.old ≡ block ∷ entries self.new) × Kept self.new }
     {
-        let popped = self.popped();
-        *self = popped.rest;
-        popped.block
-    }
-
-    // A push on a worklist that is handed over and back.
-    pub fn pushing(mut self, block: usize) -> Worklist
-        requires { Kept self × (block < largest_blocks) }
-        ensures { (entries result ≡ move_to_top block (entries self)) × Kept result }
-    {
-        self.push(block);
-        self
-    }
-
-    // A pop off a worklist that is handed over and back.
-    pub fn popping(mut self) -> Popped
-        requires { Kept self × (empty (entries self) ≡ false) }
-        ensures { (entries self ≡ result.block ∷ entries result.rest) × Kept result.rest }
-    {
-        let block = self.pop();
-        Popped { block, rest: self }
+        let top = self.count.checked_sub(1)?;
+        let block = usize::from(self.blocks[top]);
+        self.count = top;
+        self.pending &= !bit_of(block);
+        Some(block)
     }
 }

@@ -1,3 +1,2 @@
-pub mod Tags
-pub mod Asked
 pub mod Running
+pub mod Words

@@ -1,5 +1,5 @@
 pub mod Wrote
 pub mod Places
+pub mod Put
 pub mod Parts
-pub mod Next
 pub mod Steps

@@ -4,7 +4,7 @@ use Rattle.std.specs.Prelude.{ℕ, ◌+◌, ◌-◌, ◌<◌, ◌≤◌, ◌≡�
 use Rattle.std.proofs.Common.{sym, ap, subst, ◌∙◌, arith}
 use Rattle.rules.specs.Records.{kind, record_at, record_count}
 use Rattle.rules.specs.declared.Record.{Record}
-use Rattle.writing.specs.Next.{next_place, next_place-bounds, next_place-found}
+use Rattle.graph.specs.Next.{next_place, next_place-bounds, next_place-found}
 use Rattle.writing.specs.Places.{from_to, wrote-start, wrote-turn, passed-before, passed-behind}
 use Rattle.writing.specs.Wrote.{Wrote, wrote_as}
 

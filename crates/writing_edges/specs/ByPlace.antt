@@ -15,7 +15,7 @@ use Rattle.lists.specs.Tests.{eqb_same}
 use Rattle.graph.specs.Between.{between, between_none, between_more}
 use Rattle.graph.specs.Sections.{place_if, places, first_or, sections_at}
 use Rattle.numbering.specs.Beside.{made_at, mades_between}
-use Rattle.writing.specs.Next.{next_place}
+use Rattle.graph.specs.Next.{next_place}
 use Rattle.writing.specs.Places.{from_to, from_to-none, from_to-more}
 
 -- what is made of the record at a place, if it is of kind k

@@ -26,7 +26,7 @@ use Rattle.writing_edges.specs.declared.edges.EdgePart.{EdgePart}
 use Rattle.writing_edges.specs.declared.edges.EdgePart.TheVariants as edge
 use Rattle.writing.specs.declared.parts.Part.{Part}
 use Rattle.writing.specs.declared.parts.Part.TheVariants as part
-use Rattle.writing.specs.Next.{next_place}
+use Rattle.graph.specs.Next.{next_place}
 use Rattle.writing.specs.Parts.{slot_in, items_records, part_records, part_at}
 use Rattle.writing.specs.Places.{from_to}
 use Rattle.writing.specs.Steps.{Only}

@@ -1,4 +1,4 @@
-// Edges and landings of the rewritten function, over the runs of `writing`: each writer fills the front of the unwritten rest.
+// Edges and landings of the rewritten function, over the runs of `writing`.
 #![tactic(auto)]
 
 pub mod edges;

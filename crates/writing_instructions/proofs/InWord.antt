@@ -1,50 +1,50 @@
--- The loop over the ones of a word: below the next one, v, every entry is written.
+-- The loop over the ones of a word: below the next one, v, every entry is put.
 use Prim.Native.Nat.{ℕ, ◌+◌, ◌-◌, ◌<◌, ◌≤◌, min}
 use native.Mathlib.Omega.{arith}
 use mathlib.Core.Path.{◌≡◌, sym, ap, ◌∙◌}
 use mathlib.Core.Bool.{true, false, not, ◌&&◌}
-use mathlib.Core.List.{List, [], ◌∷◌, ◌++◌}
-use lib.ListN.{length, take, drop}
+use mathlib.Core.List.{List, [], ◌∷◌}
+use lib.ListN.{length}
 use lib.Dec.{eqb}
-use Rattle.rules.specs.Limits.{record_bytes}
 use Rattle.rules.specs.declared.Record.{Record}
 use Rattle.rows.specs.Bits.{bit_at}
 use Rattle.rows.specs.Words.{Left, left-further, left-next, left_passed}
-use Rattle.writing.specs.Wrote.{room, Wrote, wrote_as}
-use Rattle.writing.specs.Places.{from_to, wrote-start, wrote-turn, turn-room}
+use Rattle.writing.specs.Places.{from_to}
+use Rattle.writing.specs.Put.{Fits, Put, put_as, put_start, put_turn, fits_as, turn_fits}
+use Rattle.writing.specs.declared.put.Output.{Output}
 use Rattle.writing_instructions.specs.Entries.{entry_of, entry_at, entry_listed, entries-passed, in_word}
 
 module _ (size slot : ℕ → ℕ) (word base end : ℕ) where
-  -- what is written below v
+  -- what is put below v
   abbrev pub written_below : ℕ → List Record
   written_below v = from_to (entry_at size slot (in_word word base)) base (min v end)
 
   -- at first nothing, if the word has no value below
   pub word-start :
-      (e : List ℕ) (k : ℕ) → base ≤ end → ((i : ℕ) → i < k → bit_at word i ≡ false) → Wrote e (written_below (base + k)) 0 e
-  word-start e k l clear =
-      wrote_as _ _ (entries-passed size slot (in_word word base) base base (min (base + k) end) (omega arith) (omega arith) (λ u m n. clear (u - base) (omega arith)))
-      (wrote-start (entry_at size slot (in_word word base)) base e)
+      (a : Output) → a.at ≤ length a.bytes.now → (k : ℕ) → base ≤ end → ((i : ℕ) → i < k → bit_at word i ≡ false) → Put a (written_below (base + k)) a
+  word-start a room k l clear =
+      put_as (entries-passed size slot (in_word word base) base base (min (base + k) end) (omega arith) (omega arith) (λ u m n. clear (u - base) (omega arith)))
+      (put_start (entry_at size slot (in_word word base)) base a room)
 
-  module _ (v left : ℕ) (l : base ≤ v) (m : v < end) (far : end ≤ base + 64) (h : Left word (v - base) left) {e : List ℕ} {at : ℕ} {x : List ℕ} (w : Wrote e (written_below v) at x) where
-    below : Wrote e (from_to (entry_at size slot (in_word word base)) base v) at x
-    below = let here : min v end ≡ v = omega arith in wrote_as _ _ (ap (from_to (entry_at size slot (in_word word base)) base) here) w
+  module _ (v left : ℕ) (l : base ≤ v) (m : v < end) (far : end ≤ base + 64) (h : Left word (v - base) left) {a b : Output}
+      (fits : Fits a (from_to (entry_at size slot (in_word word base)) base end)) (w : Put a (written_below v) b) where
+    below : Put a (from_to (entry_at size slot (in_word word base)) base v) b
+    below = let here : min v end ≡ v = omega arith in put_as (ap (from_to (entry_at size slot (in_word word base)) base) here) w
 
     listed : entry_of size slot v ∷ [] ≡ entry_at size slot (in_word word base) v
     listed = sym (entry_listed size slot (in_word word base) v (sym (h.same (v - base) (omega arith)) ∙ h.here (omega arith)))
 
     -- there is room for the entry of v,
-    pub word_room : room (from_to (entry_at size slot (in_word word base)) base end) ≤ length e → at + record_bytes ≤ length x
-    word_room fits = omega (arith, turn-room (entry_at size slot (in_word word base)) base v l end m fits below, ap length listed)
+    pub word_fits : Fits b (entry_of size slot v ∷ [])
+    word_fits = fits_as b (sym listed) (turn_fits (entry_at size slot (in_word word base)) base v end l m fits below)
 
-    -- and behind it every entry below n is written, if the word has no value between
+    -- and behind it every entry below n is put, if the word has no value between
     pub word-turn :
-        (n : ℕ) {q : ℕ} {y : List ℕ} → v < n → ((i : ℕ) → v - base < i → base + i < n → bit_at word i ≡ false) → at ≤ length x
-        → Wrote (take (length x - at) (drop at x)) (entry_of size slot v ∷ []) q y
-        → Wrote e (written_below n) (at + q) (take at x ++ (y ++ drop (length x - at) (drop at x)))
-    word-turn n next none fits one =
-        wrote_as _ _ (entries-passed size slot (in_word word base) base (v + 1) (min n end) (omega arith) (omega arith) (λ u f g. none (u - base) (omega arith) (omega arith)))
-        (wrote-turn (entry_at size slot (in_word word base)) base v l (entry_of size slot v ∷ []) listed below fits one)
+        (n : ℕ) {c : Output} → v < n → ((i : ℕ) → v - base < i → base + i < n → bit_at word i ≡ false)
+        → Put b (entry_of size slot v ∷ []) c → Put a (written_below n) c
+    word-turn n next none one =
+        put_as (entries-passed size slot (in_word word base) base (v + 1) (min n end) (omega arith) (omega arith) (λ u f g. none (u - base) (omega arith) (omega arith)))
+        (put_turn (entry_at size slot (in_word word base)) base v end l m fits below (entry_of size slot v ∷ []) listed one)
 
 -- THE NEXT ONE is further, the rest of the word is left from it on, and the word has none between
 pub word_next :

@@ -15,7 +15,7 @@ use Rattle.listing.specs.Parted.{run_end, run-nearer, Parted, kinds-none, parted
 use Rattle.numbering.specs.Beside.{made_at}
 use Rattle.writing.specs.declared.parts.Part.{Part}
 use Rattle.writing.specs.declared.parts.Part.TheVariants as part
-use Rattle.writing.specs.Next.{next_place, next_place-bounds, next_place-found, next_place-from}
+use Rattle.graph.specs.Next.{next_place, next_place-bounds, next_place-found, next_place-from}
 use Rattle.writing.specs.Parts.{slot_in, part_at, part_records}
 use Rattle.writing.specs.Places.{from_to, passed-before, passed-behind}
 use Rattle.writing_edges.specs.declared.edges.EdgePart.{EdgePart}
@@ -24,6 +24,10 @@ use Rattle.writing_edges.specs.Edges.{edge_part_at, edge_other}
 use Rattle.writing_instructions.specs.declared.instructions.InstructionRuns.{InstructionRuns}
 use Rattle.writing_instructions.specs.Entries.{entries_below}
 use Rattle.writing_instructions.specs.Runs.{parts_run, edges_run, exits_run, instruction_run}
+
+-- the runs stand one behind the other
+abbrev pub Ascend : InstructionRuns → Type 0
+Ascend r = (r.place < r.results) × (r.results ≤ r.exits) × (r.exits ≤ r.end)
 
 -- BY ITS RUNS: arguments from place p on, results from place a on, edges and contexts from place b on and before place q.
 module _ (s numbers slots : List ℕ) where

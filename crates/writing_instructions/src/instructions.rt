@@ -1,21 +1,23 @@
 // One instruction: loads before it, its record with what belongs to it and its map, stores behind it.
-ghost use Rattle.std.specs.Prelude.{◌≡◌, true, ◌+◌, ◌<◌, ◌≤◌, length, T};
-ghost use Rattle.rules.specs.Records.{record_count, records};
-ghost use Rattle.rules.specs.File.{ordered};
+ghost use Rattle.std.specs.Prelude.{◌≡◌, ◌+◌, ◌<◌, ◌≤◌, T};
+ghost use Rattle.rules.specs.Records.{record_count};
 ghost use Rattle.records.specs.Parts.{is_instruction};
-ghost use Rattle.rows.specs.Rows.{rows, row_values, HasRow};
+ghost use Rattle.rows.specs.Rows.{rows, HasRow};
 ghost use Rattle.listing.specs.Across.{section_at};
-ghost use Rattle.writing.specs.Next.{next_place};
-ghost use Rattle.writing.specs.Parts.{Readable};
-ghost use Rattle.writing.specs.Wrote.{room, Wrote};
+ghost use Rattle.graph.specs.Next.{next_place};
+ghost use Rattle.writing.specs.Put.{Fits, Put};
 ghost use Rattle.writing_instructions.specs.Runs.{exits_run};
-ghost use Rattle.writing_instructions.specs.Narrowed.{loads_in, operands_in, itself_in, instruction_in, runs_of};
+ghost use Rattle.writing_instructions.specs.Narrowed.{Ascend, loads_in, operands_in, itself_in, instruction_in, runs_of};
 
-use crate::entries::put_entries;
+use crate::entries::{Lists, put_entries};
+use graph::places::next_place;
 use listing::runs::run_end;
+use records::file::File;
+use rules::kinds;
 use writing::parts::Part;
-use writing::put::put_copy;
-use writing::run::{next_place, put_parts};
+use writing::plan::Plan;
+use writing::put::Output;
+use writing::run::put_parts;
 use writing_edges::edges::{EdgePart, put_edges};
 
 // Where an instruction's runs stand: its own place, its results behind its arguments, its edges and contexts behind them, and
@@ -30,159 +32,78 @@ pub struct InstructionRuns {
 
 // The runs of the instruction at place p, in a block whose records end before place end. Its arguments and results end before
 // the next instruction, which is looked for behind them.
-pub fn instruction_runs(s: &[u8], p: usize, end: usize) -> InstructionRuns
-    requires { (p < end) × (end ≤ record_count s.now) × (ordered 0 (records s.now) ≡ true) × T (is_instruction (section_at s.now p (next_place s.now 4 (p + 1) end))) }
-    ensures { result ≡ runs_of s.now p end }
+pub fn instruction_runs(file: File<'_>, p: usize, end: usize) -> InstructionRuns
+    requires { (p < end) × (end ≤ record_count file.bytes.now) × T (is_instruction (section_at file.bytes.now p (next_place file.bytes.now 4 (p + 1) end))) }
+    ensures { result ≡ runs_of file.entry.bytes.now p end }
 {
-    let results = run_end(s, 6, p + 1, end);
-    let exits = run_end(s, 5, results, end);
+    let results = run_end(file, kinds::ARGUMENT, p + 1, end);
+    let exits = run_end(file, kinds::RESULT, results, end);
     InstructionRuns {
         place: p,
         results,
         exits,
-        end: next_place(s, 4, exits, end),
+        end: next_place(file, kinds::INSTRUCTION, exits, end),
     }
 }
 
 // The loads that an instruction asks for: of its arguments, which stand before its results, and of what its edges pass.
-fn put_loads(
-    s: &[u8],
-    numbers: &[u32],
-    slots: &[u32],
-    from: usize,
-    results: usize,
-    exits: usize,
-    end: usize,
-    out: &mut [u8],
-) -> usize
-    requires { Readable s.now numbers.now × (from ≤ results) × (results ≤ exits) × (exits ≤ end) × (end ≤ record_count s.now) × (room (loads_in s.now numbers.now slots.now from results exits end) ≤ length out.old) }
-    ensures { Wrote out.old (loads_in s.now numbers.now slots.now from results exits end) result out.new }
+fn put_loads(plan: Plan<'_>, at: InstructionRuns, out: &mut Output<'_>)
+    requires { Ascend at × (at.end ≤ record_count plan.file.bytes.now) × Fits out.old (loads_in plan.file.bytes.now plan.numbers.now plan.slots.now (at.place + 1) at.results at.exits at.end) }
+    ensures { Put out.old (loads_in plan.entry.file.bytes.now plan.entry.numbers.now plan.entry.slots.now (at.place + 1) at.results at.exits at.end) out.new }
 {
-    let a = put_parts(s, numbers, slots, 6, Part::Load, from, results, out);
-    let b = put_edges(
-        s,
-        numbers,
-        slots,
-        EdgePart::Loads,
-        exits,
-        end,
-        &mut out[a..],
-    );
-    a + b
+    let first = at.place + 1;
+    put_parts(plan, kinds::ARGUMENT, Part::Load, first, at.results, out);
+    put_edges(plan, EdgePart::Loads, at.exits, at.end, out);
 }
 
 // Its arguments and results.
-fn put_operands(
-    s: &[u8],
-    numbers: &[u32],
-    slots: &[u32],
-    from: usize,
-    results: usize,
-    exits: usize,
-    out: &mut [u8],
-) -> usize
-    requires { Readable s.now numbers.now × (from ≤ results) × (results ≤ exits) × (exits ≤ record_count s.now) × (room (operands_in s.now numbers.now slots.now from results exits) ≤ length out.old) }
-    ensures { Wrote out.old (operands_in s.now numbers.now slots.now from results exits) result out.new }
+fn put_operands(plan: Plan<'_>, at: InstructionRuns, out: &mut Output<'_>)
+    requires { Ascend at × (at.end ≤ record_count plan.file.bytes.now) × Fits out.old (operands_in plan.file.bytes.now plan.numbers.now plan.slots.now (at.place + 1) at.results at.exits) }
+    ensures { Put out.old (operands_in plan.entry.file.bytes.now plan.entry.numbers.now plan.entry.slots.now (at.place + 1) at.results at.exits) out.new }
 {
-    let a = put_parts(s, numbers, slots, 6, Part::Argument, from, results, out);
-    let b = put_parts(
-        s,
-        numbers,
-        slots,
-        5,
-        Part::Result,
-        results,
-        exits,
-        &mut out[a..],
+    put_parts(
+        plan,
+        kinds::ARGUMENT,
+        Part::Argument,
+        at.place + 1,
+        at.results,
+        out,
     );
-    a + b
+    put_parts(plan, kinds::RESULT, Part::Result, at.results, at.exits, out);
 }
 
 // Its edges and contexts.
-fn put_exits(
-    s: &[u8],
-    numbers: &[u32],
-    slots: &[u32],
-    from: usize,
-    end: usize,
-    out: &mut [u8],
-) -> usize
-    requires { Readable s.now numbers.now × (from ≤ end) × (end ≤ record_count s.now) × (room (exits_run s.now numbers.now slots.now from end) ≤ length out.old) }
-    ensures { Wrote out.old (exits_run s.now numbers.now slots.now from end) result out.new }
+fn put_exits(plan: Plan<'_>, at: InstructionRuns, out: &mut Output<'_>)
+    requires { Ascend at × (at.end ≤ record_count plan.file.bytes.now) × Fits out.old (exits_run plan.file.bytes.now plan.numbers.now plan.slots.now at.exits at.end) }
+    ensures { Put out.old (exits_run plan.entry.file.bytes.now plan.entry.numbers.now plan.entry.slots.now at.exits at.end) out.new }
 {
-    let a = put_edges(s, numbers, slots, EdgePart::Itself, from, end, out);
-    let b = put_parts(
-        s,
-        numbers,
-        slots,
-        9,
-        Part::Context,
-        from,
-        end,
-        &mut out[a..],
-    );
-    a + b
+    put_edges(plan, EdgePart::Itself, at.exits, at.end, out);
+    put_parts(plan, kinds::CONTEXT, Part::Context, at.exits, at.end, out);
 }
 
 // The instruction itself, whose list is row i.
-fn put_itself(
-    s: &[u8],
-    numbers: &[u32],
-    slots: &[u32],
-    lists: &[u64],
-    values: usize,
-    i: usize,
-    at: InstructionRuns,
-    out: &mut [u8],
-) -> usize
-    requires { Readable s.now numbers.now × (at.place < at.results) × (at.results ≤ at.exits) × (at.exits ≤ at.end) × (at.end ≤ record_count s.now) × HasRow lists.now i × (values ≤ row_values) × (room (itself_in s.now numbers.now slots.now (rows lists.now i) values at.place at.results at.exits at.end) ≤ length out.old) }
-    ensures { Wrote out.old (itself_in s.now numbers.now slots.now (rows lists.now i) values at.place at.results at.exits at.end) result out.new }
+fn put_itself(plan: Plan<'_>, lists: Lists<'_>, i: usize, at: InstructionRuns, out: &mut Output<'_>)
+    requires { Ascend at × (at.end ≤ record_count plan.file.bytes.now) × HasRow lists.rows.now i × Fits out.old (itself_in plan.file.bytes.now plan.numbers.now plan.slots.now (rows lists.rows.now i) lists.values at.place at.results at.exits at.end) }
+    ensures { Put out.old (itself_in plan.entry.file.bytes.now plan.entry.numbers.now plan.entry.slots.now (rows lists.entry.rows.now i) lists.entry.values at.place at.results at.exits at.end) out.new }
 {
-    let a = put_copy(s, at.place, out);
-    let b = put_operands(
-        s,
-        numbers,
-        slots,
-        at.place + 1,
-        at.results,
-        at.exits,
-        &mut out[a..],
-    );
-    let ab = a + b;
-    let c = put_exits(s, numbers, slots, at.exits, at.end, &mut out[ab..]);
-    let abc = ab + c;
-    let d = put_entries(s, slots, lists, i, values, &mut out[abc..]);
-    abc + d
+    out.put_copy(plan.file, at.place);
+    put_operands(plan, at, out);
+    put_exits(plan, at, out);
+    put_entries(plan.homes(), lists, i, out);
 }
 
 // The instruction with its loads and stores, each over its own run; its list is row i.
 pub fn put_instruction(
-    s: &[u8],
-    numbers: &[u32],
-    slots: &[u32],
-    lists: &[u64],
-    values: usize,
+    plan: Plan<'_>,
+    lists: Lists<'_>,
     i: usize,
     at: InstructionRuns,
-    out: &mut [u8],
-) -> usize
-    requires { Readable s.now numbers.now × (at.place < at.results) × (at.results ≤ at.exits) × (at.exits ≤ at.end) × (at.end ≤ record_count s.now) × HasRow lists.now i × (values ≤ row_values) × (room (instruction_in s.now numbers.now slots.now (rows lists.now i) values at.place at.results at.exits at.end) ≤ length out.old) }
-    ensures { Wrote out.old (instruction_in s.now numbers.now slots.now (rows lists.now i) values at.place at.results at.exits at.end) result out.new }
+    out: &mut Output<'_>,
+)
+    requires { Ascend at × (at.end ≤ record_count plan.file.bytes.now) × HasRow lists.rows.now i × Fits out.old (instruction_in plan.file.bytes.now plan.numbers.now plan.slots.now (rows lists.rows.now i) lists.values at.place at.results at.exits at.end) }
+    ensures { Put out.old (instruction_in plan.entry.file.bytes.now plan.entry.numbers.now plan.entry.slots.now (rows lists.entry.rows.now i) lists.entry.values at.place at.results at.exits at.end) out.new }
 {
-    let results = at.results;
-    let exits = at.exits;
-    let a = put_loads(s, numbers, slots, at.place + 1, results, exits, at.end, out);
-    let b = put_itself(s, numbers, slots, lists, values, i, at, &mut out[a..]);
-    let ab = a + b;
-    let c = put_parts(
-        s,
-        numbers,
-        slots,
-        5,
-        Part::Store,
-        results,
-        exits,
-        &mut out[ab..],
-    );
-    ab + c
+    put_loads(plan, at, out);
+    put_itself(plan, lists, i, at, out);
+    put_parts(plan, kinds::RESULT, Part::Store, at.results, at.exits, out);
 }

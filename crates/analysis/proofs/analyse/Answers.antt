@@ -1,25 +1,22 @@
 -- `analysis::analyse` meets its contract.
-use Rattle.analysis.specs.Analysis.{links-lent, sets-lent, then-solvable}
-use borrow.Author.Rules.{rules}
+use Rattle.std.proofs.Common.{rules}
+use Rattle.analysis.specs.Analysis.{links-lent, sets-lent, then-listed, then-ruled, then-solvable}
 use Rattle.analysis.proofs.analyse.Goals as goal
 
 pub link_predecessors-requires : goal.link_predecessors-requires
-link_predecessors-requires c = (c.requires.walked, links-lent c.requires)
+link_predecessors-requires c = links-lent c.requires
 
 pub block_sets-requires : goal.block_sets-requires
-block_sets-requires c = sets-lent c.requires
+block_sets-requires c =
+    let blocks = c.args.reachable.blocks in
+    sets-lent c.requires _ _ blocks.given blocks.counted
+
+pub invariant_of-equations : goal.invariant_of-equations
+invariant_of-equations c =
+    record {
+      listed = then-listed c.requires _ _ _ _ c.link_predecessors.ensures;
+      ruled = then-ruled c.requires _ _ c.block_sets.ensures.0 c.block_sets.ensures.1 (search rules) (search rules);
+    }
 
 pub solve-requires : goal.solve-requires
-solve-requires c = then-solvable c.requires _ _ _ _ _ _ c.link_predecessors.ensures c.block_sets.ensures.0 c.block_sets.ensures.1 (search rules) (search rules)
-
-pub returns : goal.returns
-returns c =
-    record {
-      live_in = c.solve.ensures.0;
-      live_out = c.solve.ensures.1;
-      visits = c.solve.ensures.2;
-      pushes = c.solve.ensures.3;
-      used = c.block_sets.ensures.0;
-      killed = c.block_sets.ensures.1;
-      lists = (_, c.link_predecessors.ensures);
-    }
+solve-requires c = then-solvable c.requires

@@ -1,36 +1,30 @@
 -- `counting::count_entries` meets its contract.
-use mathlib.Core.Path.{◌≡◌}
+use borrow.Author.Rules.{rules}
+use mathlib.Core.Path.{◌∙◌}
 use native.Mathlib.Omega.{arith}
+use Rattle.std.specs.List.{range_with_len}
+use Rattle.std.proofs.lemmas.Iterator.{YieldsList-from_map, YieldsList-from_range}
+use Rattle.std.proofs.lemmas.Iterator.Consumers.{sum_by_from_yields_List, fits_by_from_yields_list}
 use Rattle.rows.specs.Rows.{rows, size}
 use Rattle.listing.specs.Ascending.{size-ascending, ascending-small}
-use Rattle.counting.proofs.Sums.{sum-start, sum-turn}
+use Rattle.counting.proofs.Sums.{sum-range, sum-small}
 use Rattle.counting.proofs.count_entries.Goals as goal
 
-pub loop-i-init : goal.loop-i-init
-loop-i-init c = (omega arith, sum-start (λ j. size (rows c.args.lists.now j)), omega arith)
-
-pub count_listed-found-requires : goal.count_listed-found-requires
-count_listed-found-requires c = omega (arith, c.requires.0)
-
-pub overflow_add-found : goal.overflow_add-found
-overflow_add-found c = omega (arith, c.loop-i.invariant.2, c.requires.1, c.count_listed-found.ensures, size-ascending (rows c.args.lists.now c.loop-i.i), ascending-small (rows c.args.lists.now c.loop-i.i))
-
-pub overflow_add-i : goal.overflow_add-i
-overflow_add-i c = omega (arith, c.requires.1)
-
-pub loop-i-smaller : goal.loop-i-smaller
-loop-i-smaller c = omega arith
-
-pub loop-i-preserved : goal.loop-i-preserved
-loop-i-preserved c =
+pub sum-requires-clause-fits : goal.sum-requires-clause-fits
+sum-requires-clause-fits c =
+    let n = c.args.instructions in
     let set = rows c.args.lists.now in
-    let turn = sum-turn (λ j. size (set j)) c.loop-i.i in (
-      omega arith,
-      omega (arith, c.loop-i.invariant.1, c.count_listed-found.ensures, turn),
-      omega (arith, c.loop-i.invariant.2, c.count_listed-found.ensures, size-ascending (set c.loop-i.i), ascending-small (set c.loop-i.i)),
-    )
+    let small = sum-small (λ i. size (set i)) 512 0 n (λ i _ _. omega (arith, size-ascending (set i), ascending-small (set i))) in
+    fits_by_from_yields_list (λ i. size (set i)) (range_with_len 0 n) _ _
+    (YieldsList-from_map _ (λ i. size (set i)) (YieldsList-from_range 0 n n c.map.ensures.source (omega arith)) c.map.ensures.closure (λ x r q k. search rules))
+    (omega (arith, small, c.requires.1))
 
 pub returns : goal.returns
 returns c =
-    let at : c.loop-i.i ≡ c.args.instructions = omega (arith, c.loop-i.invariant.0, c.loop-i-test.false) in
-    rw (← at) (c.loop-i.invariant.1, c.loop-i.invariant.2)
+    let n = c.args.instructions in
+    let set = rows c.args.lists.now in
+    let small = sum-small (λ i. size (set i)) 512 0 n (λ i _ _. omega (arith, size-ascending (set i), ascending-small (set i))) in
+    let all =
+    sum_by_from_yields_List (λ i. size (set i)) (range_with_len 0 n) c.map.result _ c.sum.ensures.ran
+    (YieldsList-from_map _ (λ i. size (set i)) (YieldsList-from_range 0 n n c.map.ensures.source (omega arith)) c.map.ensures.closure (λ x r q k. search rules)) in
+    (all ∙ sum-range (λ i. size (set i)) 0 n, omega (arith, all, small))

@@ -1,17 +1,18 @@
 -- `records::put_word` meets its contract.
-use native.Mathlib.Numerals.{add-one, add-two, add-three}
+use Prim.Native.Nat.{ℕ, ◌+◌, ◌-◌}
 use native.Mathlib.Omega.{arith}
-use lib.ListN.{length-set}
+use mathlib.Core.List.{List, ◌++◌}
+use mathlib.Core.Path.{◌≡◌, sym, ap, ◌∙◌}
+use lib.ListN.{take, drop}
+use Rattle.rules.specs.Records.{bytes_of_word}
+use Rattle.records.specs.Writing.{put-between}
 use Rattle.records.proofs.put_word.Goals as goal
 
-pub bounds-out-i-2 : goal.bounds-out-i-2
-bounds-out-i-2 c = simp length-set (omega arith)
-
-pub bounds-out-i-3 : goal.bounds-out-i-3
-bounds-out-i-3 c = simp length-set (omega arith)
-
-pub bounds-out-i-4 : goal.bounds-out-i-4
-bounds-out-i-4 c = simp length-set (omega arith)
-
 pub returns : goal.returns
-returns c = simp (add-one, add-two, add-three, c.low_byte.ensures, c.low_byte-2.ensures, c.low_byte-3.ensures, c.low_byte-4.ensures)
+returns c =
+    let i = c.args.i in
+    let t = c.args.out.now in
+    let four : i + 4 - i ≡ 4 = omega arith in
+    ap (λ (bs : List ℕ). take i t ++ (bs ++ drop (i + 4 - i) (drop i t))) (c.copy_from_slice.ensures.after ∙ c.to_le_bytes-bytes.ensures)
+    ∙ ap (λ k. take i t ++ (bytes_of_word c.args.w ++ drop k (drop i t))) four
+    ∙ sym (put-between i (bytes_of_word c.args.w) t c.requires)

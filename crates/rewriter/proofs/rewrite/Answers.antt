@@ -1,48 +1,25 @@
 -- `rewriter::rewrite` meets its contract.
-use mathlib.Core.Bool.{not}
-use mathlib.Core.Path.{sym, ap, ◌∙◌}
-use borrow.Author.Rules.{rules}
-use lib.ListN.{length}
-use Rattle.rules.specs.Services.{rewriting_answer, rewriting_output}
-use Rattle.acceptance.specs.Stages.{said-no, said-yes}
-use Rattle.acceptance.specs.Survey.{blank-tables}
-use Rattle.analysis.specs.Live.{surveyed-indexed}
-use Rattle.analysis.specs.Live.{cleared-blank}
-use Rattle.rewriter.proofs.RewriteAnswers.{pointer-refused, rewriting-refused}
+use Rattle.std.proofs.Common.{◌≡◌, rules, length, replicate, ◌∙◌}
+use Rattle.std.proofs.lemmas.Result.{err_from_is_err_and}
+use Rattle.rewriting.specs.Rows.{PointerFine}
+use Rattle.rewriter.proofs.RewriteAnswers.{pointer-refused, rewriting-refused, fine-four, fine-eight}
 use Rattle.rewriter.proofs.rewrite.Goals as goal
+use Rattle.rewriter.proofs.rewrite.Goals.{else-pointer-ne4-via-then-pointer-ne4+else-pointer-ne8, else-pointer-ne4-via-else-pointer-ne4}
 
-pub returns-then-not-is_pointer_size : goal.returns-then-not-is_pointer_size
-returns-then-not-is_pointer_size c =
-    let A = c.args in
-    let said =
-    pointer-refused (A.s).now A.pointer (length (A.out).now) (sym c.is_pointer_size.ensures ∙ c.if-not-is_pointer_size.true) in
-    (c.refused.ensures ∙ said.0, c.clear_bytes.ensures ∙ said.1)
+pub returns-then-pointer-ne8 : goal.returns-then-pointer-ne8
+returns-then-pointer-ne8 c =
+    let cleared : c.fill.new.self ≡ replicate (length c.args.out.now) 0 = search rules in
+    let refused = pointer-refused c.args.s.now c.args.pointer (length c.args.out.now) c.if-pointer-ne4.true c.if-pointer-ne8.true in
+    (refused.0, cleared ∙ refused.1)
 
-pub survey-found-requires : goal.survey-found-requires
-survey-found-requires c = blank-tables
-
-pub returns-then-not-is_accepted : goal.returns-then-not-is_accepted
-returns-then-not-is_accepted c =
-    let A = c.args in
-    let fine = sym c.is_pointer_size.ensures ∙ c.if-not-is_pointer_size.false in
-    let no' = said-no c.is_accepted.ensures c.survey-found.ensures.says (ap not c.if-not-is_accepted.true) in
-    let said = rewriting-refused (A.s).now A.pointer (length (A.out).now) fine no' _ c.survey-found.ensures.says in
-    (c.refused-then-not-is_accepted.ensures ∙ said.0, c.clear_bytes.ensures ∙ said.1)
-
-pub rewrite_accepted-requires : goal.rewrite_accepted-requires
-rewrite_accepted-requires c = (
-  surveyed-indexed blank-tables c.survey-found.ensures (said-yes c.is_accepted.ensures c.survey-found.ensures.says (ap not c.if-not-is_accepted.false)),
-  sym c.is_pointer_size.ensures ∙ c.if-not-is_pointer_size.false,
-  (cleared-blank _ (length c.args.out.now) (length c.args.out.now) c.clear_bytes.ensures (search rules)).1,
-)
-
-pub shape_of-out : goal.shape_of-out
-shape_of-out c = c.rewrite_accepted.auto.out ∙ c.clear_bytes.auto.bytes
-
-pub returns : goal.returns
-returns c =
-    let A = c.args in
-    let long = c.clear_bytes.auto.bytes in (
-      c.rewrite_accepted.ensures.0 ∙ ap (rewriting_answer (A.s).now A.pointer) long,
-      c.rewrite_accepted.ensures.1 ∙ ap (rewriting_output (A.s).now A.pointer) long,
-    )
+pub returns-in_err-survey : goal.returns-in_err-survey
+returns-in_err-survey c =
+    let p = err_from_is_err_and c.from_residual.result c.from_residual.ensures.1 in
+    let cleared : c.fill.new.self ≡ replicate (length c.args.out.now) 0 = search rules in
+    let fine : PointerFine c.args.pointer =
+    elim c.else-pointer-ne4.branch [
+      | else-pointer-ne4-via-then-pointer-ne4+else-pointer-ne8 w ↦ fine-eight w.if-pointer-ne8.false
+      | else-pointer-ne4-via-else-pointer-ne4 w ↦ fine-four w.if-pointer-ne4.false
+    ] in
+    let refused = rewriting-refused c.args.s.now c.args.pointer (length c.args.out.now) fine _ c.in_err-survey.ensures in
+    (rw (p.1, p.2) refused.0, cleared ∙ refused.1)

@@ -1,30 +1,26 @@
--- `rows::count` meets its contract. The invariant: what is counted and what is left are all members.
-use native.Mathlib.Omega.{arith}
-use mathlib.Core.Path.{◌≡◌, sym, ap, ◌∙◌}
+-- `rows::count` meets its contract.
 use borrow.Author.Rules.{rules}
-use Rattle.rows.proofs.Counting.{size_from-all, size_from-more, size_from-none}
-use Rattle.rows.specs.Rows.{rows}
-use Rattle.rules.specs.Records.{bit}
+use native.Mathlib.Omega.{arith}
+use mathlib.Core.Path.{refl, ◌∙◌}
+use mir.Val.{bool_byte}
+use Rattle.std.specs.List.{range_with_len}
+use Rattle.std.proofs.lemmas.Iterator.{YieldsList-from_map, YieldsList-from_range}
+use Rattle.std.proofs.lemmas.Iterator.Consumers.{sum_by_from_yields_List, fits_by_from_yields_list}
+use Rattle.rows.specs.Rows.{rows, row_values, size}
+use Rattle.rows.proofs.Counting.{size-summed, sum-fits}
 use Rattle.rows.proofs.count.Goals as goal
-use Rattle.rows.proofs.count.Goals.{then-contains, else-contains}
 
-pub loop-v-init : goal.loop-v-init
-loop-v-init c =
+pub sum-requires-clause-fits : goal.sum-requires-clause-fits
+sum-requires-clause-fits c =
     let s = rows c.args.t.now c.args.row in
-    (search rules, search rules, omega (arith, size_from-all s))
-
-pub loop-v-preserved : goal.loop-v-preserved
-loop-v-preserved c =
-    let v = c.loop-v.v in
-    let s = rows c.args.t.now c.args.row in
-    let more = size_from-more v s (search rules) in
-    let asked = sym c.contains.ensures in
-    elim c.if-contains.branch [
-      | then-contains w ↦ let one : bit (s v) ≡ 1 = ap bit (asked ∙ w.if-contains.true) in (search rules, omega arith, omega arith)
-      | else-contains w ↦ let none : bit (s v) ≡ 0 = ap bit (asked ∙ w.if-contains.false) in (search rules, omega arith, omega arith)
-    ]
+    fits_by_from_yields_list (λ v. bool_byte (s v)) (range_with_len 0 row_values) _ _
+    (YieldsList-from_map _ (λ v. bool_byte (s v)) (YieldsList-from_range 0 row_values row_values c.map.ensures.source refl) c.map.ensures.closure (λ x r q k. search rules))
+    (sum-fits s row_values (omega arith))
 
 pub returns : goal.returns
+unfolding size
 returns c =
     let s = rows c.args.t.now c.args.row in
-    omega (arith, size_from-none c.loop-v.v s (omega arith))
+    sum_by_from_yields_List (λ v. bool_byte (s v)) (range_with_len 0 row_values) c.map.result _ c.sum.ensures.ran
+    (YieldsList-from_map _ (λ v. bool_byte (s v)) (YieldsList-from_range 0 row_values row_values c.map.ensures.source refl) c.map.ensures.closure (λ x r q k. search rules))
+    ∙ size-summed s 0 row_values

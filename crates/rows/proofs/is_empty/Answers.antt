@@ -1,19 +1,16 @@
--- `rows::is_empty` meets its contract. The invariant: the first k words are taken together.
-use native.Mathlib.Omega.{arith}
-use mathlib.Core.Path.{◌≡◌}
+-- `rows::is_empty` meets its contract.
 use borrow.Author.Rules.{rules}
-use Rattle.rows.proofs.Together.{together-start, together-more, together-empty}
-use Rattle.rules.specs.Limits.{row_words}
+use Prim.Native.Nat.{◌+◌, ◌-◌, ◌*◌}
+use native.Mathlib.Omega.{arith}
+use Rattle.std.specs.Prelude.{◌≡◌, fold, bit_or, take, drop}
+use Rattle.std.proofs.Common.{ap, ◌∙◌}
+use Rattle.rows.proofs.Together.{together-empty}
 use Rattle.rows.proofs.is_empty.Goals as goal
-
-pub loop-k-init : goal.loop-k-init
-loop-k-init c = (search rules, together-start _ _)
-
-pub loop-k-preserved : goal.loop-k-preserved
-loop-k-preserved c = (search rules, together-more _ _ _ _ _ c.loop-k.invariant.1 c.word_of-together.ensures)
 
 pub returns : goal.returns
 returns c =
-    let e : c.loop-k.k ≡ row_words = omega arith in
-    let found = c.zeros_below.ensures in
-    together-empty _ _ _ _ (rw e at c.loop-k.invariant.1) found.0 found.1 found.2
+    let t = c.args.t.now in
+    let at = 8 * c.args.row in
+    let words : c.fold.result ≡ fold bit_or 0 (take (at + 8 - at) (drop at t)) = search rules in
+    let eight : at + 8 - at ≡ 8 = omega arith in
+    together-empty t c.args.row _ c.requires (search rules) (words ∙ ap (λ n. fold bit_or 0 (take n (drop at t))) eight)

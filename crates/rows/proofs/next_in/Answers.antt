@@ -15,9 +15,9 @@ returns-then-bit-skipped-lt-WORD_BITS c =
     let A = c.args in (
       omega arith,
       omega arith,
-      passed_over A.t.now A.row c.loop-at.at (omega arith) A.v g c.least.result c.loop-at.invariant.2 c.zeros_below-skipped.ensures.1 (omega (arith, c.least.ensures)) (omega (arith, c.least.ensures)),
+      passed_over A.t.now A.row c.loop-at.at (omega arith) A.v g c.min.result c.loop-at.invariant.2 c.zeros_below-skipped.ensures.1 (omega arith) (omega arith),
       λ l.
-          let there : c.least.result ≡ c.loop-at.at + g = omega (arith, c.least.ensures) in
+          let there : c.min.result ≡ c.loop-at.at + g = omega arith in
           ap (rows A.t.now A.row) there ∙ row-above A.t.now A.row c.loop-at.at (omega arith) g c.if-bit-skipped-lt-WORD_BITS.true ∙ c.zeros_below-skipped.ensures.2 (omega arith),
     )
 

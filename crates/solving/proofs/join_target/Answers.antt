@@ -13,19 +13,19 @@ use Rattle.solving.proofs.join_target.Goals as goal
 pub join-requires : goal.join-requires
 join-requires c =
     let w = c.words_at-w in
-    let is = named-edge (record_at c.args.s.now c.args.i) w.result w.ensures c.if-w-eq7.true in
+    let is = named-edge (record_at c.args.file.bytes.now c.args.i) w.result w.ensures c.if-w-eq-EDGE.true in
     (search rules, c.requires.2 _ (subst (λ (ts : List ℕ). w.result.second ∈ ts) is (here refl)))
 
-pub returns-then-w-eq7 : goal.returns-then-w-eq7
-returns-then-w-eq7 c =
+pub returns-then-w-eq-EDGE : goal.returns-then-w-eq-EDGE
+returns-then-w-eq-EDGE c =
     let w = c.words_at-w in
-    let is = named-edge (record_at c.args.s.now c.args.i) w.result w.ensures c.if-w-eq7.true in
+    let is = named-edge (record_at c.args.file.bytes.now c.args.i) w.result w.ensures c.if-w-eq-EDGE.true in
     c.join.ensures ∙ joined-one c.args.b w.result.second (rows c.args.ins.now) (rows c.args.outs.now)
     ∙ ap (λ (ts : List ℕ). joined_into c.args.b (rows c.args.ins.now) ts (rows c.args.outs.now)) is
 
-pub returns-else-w-eq7 : goal.returns-else-w-eq7
-returns-else-w-eq7 c =
+pub returns-else-w-eq-EDGE : goal.returns-else-w-eq-EDGE
+returns-else-w-eq-EDGE c =
     let w = c.words_at-w in
-    let is = named_other (record_at c.args.s.now c.args.i) w.result w.ensures c.if-w-eq7.false in
+    let is = named_other (record_at c.args.file.bytes.now c.args.i) w.result w.ensures c.if-w-eq-EDGE.false in
     sym (joined-none c.args.b (rows c.args.ins.now) (rows c.args.outs.now))
     ∙ ap (λ (ts : List ℕ). joined_into c.args.b (rows c.args.ins.now) ts (rows c.args.outs.now)) is

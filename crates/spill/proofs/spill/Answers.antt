@@ -7,7 +7,6 @@ pub returns : goal.returns
 returns g c =
     let n = c.in_ok-n.n in
     let buffer = c.read_full.new.buffer in
-    let line = c.refused_line-line.ensures in
-    let said = written-is (take n buffer) _ c.respond-answer.result _ c.refused_line-line.result.bytes _ c.refused_line-line.result.count (search rules) c.respond-answer.ensures.answer c.respond-answer.ensures.output line.0 line.1 c.to_write.ensures in
+    let said = written-is (take n buffer) _ c.respond-answer.result _ (search rules) c.respond-answer.ensures.answer c.respond-answer.ensures.output in
     let whole = read-writes _ _ buffer n (search rules) c.in_ok-n.ensures.bound c.in_ok-n.ensures.bytes c.in_ok-n.ensures.whole in
-    appended-is c.write_all.result _ _ _ _ _ said whole c.write_all.ensures.bytes
+    appended-is c.write_answer.result _ _ _ _ _ said whole c.write_answer.ensures

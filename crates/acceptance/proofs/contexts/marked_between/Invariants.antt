@@ -6,7 +6,4 @@ use Rattle.acceptance.proofs.MarkedContexts.{marked_between}
 use Rattle.acceptance.proofs.contexts.marked_between.Given as goal
 
 abbrev pub invariant-loop-i : goal.invariant-loop-i
-invariant-loop-i l = (l.start ≤ l.i) × (l.i ≤ l.end) × (marked_between l.s l.i l.end ≡ false)
-
-abbrev pub decreases-loop-i : goal.decreases-loop-i
-decreases-loop-i l = l.i
+invariant-loop-i l = (l.start ≤ l.i) × (marked_between l.file.bytes.now l.i l.end ≡ false)

@@ -1,42 +1,36 @@
 -- `acceptance::verdict::records_verdict` meets its contract.
-use Rattle.rules.specs.declared.Verdict.TheVariants as verdict
-use mathlib.Core.Path.{sym, ap, ◌∙◌}
-use mathlib.Core.Bool.{true, false}
 use borrow.Author.Tests.{eq-eqb, ne_eqb, ltb-false}
+use Rattle.std.proofs.Common.{sym, ◌∙◌}
+use mathlib.Core.Path.{refl}
 use Rattle.rules.specs.Limits.{largest_records}
-use Rattle.rules.specs.declared.Verdict.{Verdict}
 use Rattle.checks.specs.Counts.{too_many-long, too_many-counted}
 use Rattle.acceptance.specs.Stages.{records-length, records-many, records-last}
 use Rattle.acceptance.proofs.verdict.records_verdict.Goals as goal
+use Rattle.acceptance.proofs.verdict.records_verdict.Goals.{then-too_long-via-then-too_long, then-too_long-via-else-too_long+then-above_largest}
 
 pub returns-then-s-ne0 : goal.returns-then-s-ne0
-returns-then-s-ne0 c = sym (records-length c.args.s.now (ne_eqb _ 0 c.if-s-ne0.true))
+returns-then-s-ne0 c = records-length c.args.s.now (ne_eqb _ 0 c.if-s-ne0.true)
 
 pub returns-then-too_long : goal.returns-then-too_long
 returns-then-too_long c =
     let s = c.args.s.now in
-    sym (records-many s (eq-eqb _ 0 c.if-s-ne0.false) (too_many-long s (sym c.too_long.ensures ∙ c.if-too_long.true)))
-
-pub count_kinds-of-requires : goal.count_kinds-of-requires
-count_kinds-of-requires c = ltb-false largest_records _ (sym c.too_long.ensures ∙ c.if-too_long.false)
-
-pub returns-then-above_largest : goal.returns-then-above_largest
-returns-then-above_largest c =
-    let s = c.args.s.now in
-    let many = too_many-counted s c.count_kinds-of.result (sym c.too_long.ensures ∙ c.if-too_long.false) c.count_kinds-of.ensures ∙ sym c.above_largest.ensures ∙ c.if-above_largest.true in
-    sym (records-many s (eq-eqb _ 0 c.if-s-ne0.false) many)
-
-pub malformed-requires : goal.malformed-requires
-malformed-requires c = ltb-false largest_records _ (sym c.too_long.ensures ∙ c.if-too_long.false)
+    records-many s (eq-eqb _ 0 c.if-s-ne0.false)
+    (elim c.then-too_long.branch [
+      | then-too_long-via-then-too_long w ↦ too_many-long s (sym c.too_long.ensures ∙ w.if-too_long.true)
+      | then-too_long-via-else-too_long+then-above_largest w ↦
+          too_many-counted s w.count_kinds.result (sym c.too_long.ensures ∙ w.if-too_long.false) w.count_kinds.ensures
+          ∙ sym w.above_largest.ensures
+          ∙ w.if-above_largest.true
+    ])
 
 pub returns-then-malformed : goal.returns-then-malformed
 returns-then-malformed c =
     let s = c.args.s.now in
-    let few = too_many-counted s c.count_kinds-of.result (sym c.too_long.ensures ∙ c.if-too_long.false) c.count_kinds-of.ensures ∙ sym c.above_largest.ensures ∙ c.if-above_largest.false in
-    sym (records-last s (eq-eqb _ 0 c.if-s-ne0.false) few ∙ ap (λ b. elim b as (λ _. Verdict) [ true ↦ verdict.Malformed | false ↦ verdict.Accepted ]) (sym c.malformed.ensures ∙ c.if-malformed.true))
+    let few = too_many-counted s c.count_kinds.result (sym c.too_long.ensures ∙ c.if-too_long.false) c.count_kinds.ensures ∙ sym c.above_largest.ensures ∙ c.if-above_largest.false in
+    rw (records-last s (eq-eqb _ 0 c.if-s-ne0.false) few, ← c.malformed.ensures, c.if-malformed.true) refl
 
 pub returns : goal.returns
 returns c =
     let s = c.args.s.now in
-    let few = too_many-counted s c.count_kinds-of.result (sym c.too_long.ensures ∙ c.if-too_long.false) c.count_kinds-of.ensures ∙ sym c.above_largest.ensures ∙ c.if-above_largest.false in
-    sym (records-last s (eq-eqb _ 0 c.if-s-ne0.false) few ∙ ap (λ b. elim b as (λ _. Verdict) [ true ↦ verdict.Malformed | false ↦ verdict.Accepted ]) (sym c.malformed.ensures ∙ c.if-malformed.false))
+    let few = too_many-counted s c.count_kinds.result (sym c.too_long.ensures ∙ c.if-too_long.false) c.count_kinds.ensures ∙ sym c.above_largest.ensures ∙ c.if-above_largest.false in
+    (rw (records-last s (eq-eqb _ 0 c.if-s-ne0.false) few, ← c.malformed.ensures, c.if-malformed.false) refl, refl)

@@ -1,25 +1,35 @@
 -- `graph::edges::next_edge` meets its contract.
-use borrow.Author.Rules.{rules}
-use Prim.Native.Nat.{ℕ, ◌+◌}
-use mathlib.Core.Path.{◌≡◌, refl, sym, ap, ◌∙◌}
-use native.Mathlib.Omega.{arith}
+use Rattle.std.proofs.Common.{◌≡◌, ◌+◌, Some, sym, ap, ◌∙◌, arith, rules, tests}
+use Rattle.std.proofs.lemmas.Iterator.{first_from_Range}
+use Rattle.rules.specs.Records.{kind, record_at}
 use Rattle.rules.specs.declared.Words.{Words}
-use Rattle.graph.proofs.Looking.{edge_from-here, edge_from-later, edge_from-end}
+use Rattle.graph.proofs.Looking.{FirstPlace, edge_from-none, edge_from-first}
 use Rattle.graph.proofs.edges.next_edge.Goals as goal
+use Rattle.graph.proofs.edges.next_edge.Goals.{After-find}
 
-pub loop-i-init : goal.loop-i-init
-loop-i-init c = (search rules, refl)
+-- what is found is the place of the first edge
+found : (c : After-find) → FirstPlace c.args.file.bytes.now c.args.from c.args.end c.find.result
+found c =
+    first_from_Range _ _ _ c.find.result (λ i. kind (record_at c.args.file.bytes.now i) ≡ 7) (λ i. kind (record_at c.args.file.bytes.now i) ≡ 7 → ⊥)
+    c.find.ensures.ran (λ x q h. search (rules, tests)) (λ x q h. search (rules, tests))
 
-pub returns-then-kind_at-eq7 : goal.returns-then-kind_at-eq7
-returns-then-kind_at-eq7 c =
-    let is : c.words_at-w.result.kind ≡ 7 = ap (λ (w : Words). w.kind) c.words_at-w.ensures ∙ sym c.kind_at.ensures.0 ∙ c.if-kind_at-eq7.true in
-    let here = edge_from-here c.args.s.now c.loop-i.i c.args.end c.loop-i-test.true c.requires.1 c.words_at-w.result c.words_at-w.ensures is in
-    ap (λ (t : ℕ). record { tag = t + 1; behind = c.loop-i.i + 1 }) c.wide-tag.ensures.0 ∙ sym here ∙ c.loop-i.invariant.1
+pub returns-in_err-at : goal.returns-in_err-at
+returns-in_err-at c =
+    c.from_residual.ensures
+    ∙ sym (edge_from-none _ _ _ c.requires.0 c.requires.1 (rw c.in_err-at.was at (found (goal.at.returns-in_err-at c).After-find)))
 
-pub loop-i-preserved : goal.loop-i-preserved
-loop-i-preserved c =
-    (search rules, sym (edge_from-later c.args.s.now c.loop-i.i c.args.end c.loop-i-test.true c.requires.1 (λ e. c.if-kind_at-eq7.false (c.kind_at.ensures.0 ∙ e))) ∙ c.loop-i.invariant.1)
+pub words_at-requires : goal.words_at-requires
+words_at-requires c =
+    let at = rw c.in_ok-at.was at (found (goal.at.words_at-requires c).After-find) in
+    omega (arith, at.1, c.requires.1)
+
+pub overflow_add-result : goal.overflow_add-result
+overflow_add-result c =
+    let at = rw c.in_ok-at.was at (found (goal.at.overflow_add-result c).After-find) in
+    omega (arith, at.1, c.ranges.end.fits)
 
 pub returns : goal.returns
 returns c =
-    sym (edge_from-end c.args.s.now c.loop-i.i c.args.end (omega arith)) ∙ c.loop-i.invariant.1
+    let at = rw c.in_ok-at.was at (found (goal.at.returns c).After-find) in
+    ap (λ (w : Words). Some (record { target = w.second; behind = c.in_ok-at.at + 1 })) c.words_at.ensures
+    ∙ sym (edge_from-first _ _ _ _ c.requires.1 at)

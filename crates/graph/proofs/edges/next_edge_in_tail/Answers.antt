@@ -8,4 +8,4 @@ returns c =
     let tail = c.tail_from in
     let place = tail.ensures in
     c.next_edge.ensures
-    ∙ edge_from-behind-others c.args.s.now c.args.from tail.result c.args.end place.0 place.1 c.requires.1 place.2
+    ∙ edge_from-behind-others c.args.file.bytes.now c.args.from tail.result c.args.end place.0 place.1 c.requires.1 place.2

@@ -1,56 +1,52 @@
 -- `graph::places::places_of` meets its contract.
-use borrow.Author.Rules.{rules}
-use Rattle.graph.specs.Zeros.{sets-padded}
-use Rattle.graph.proofs.Filling.{places_from-all, places_from-done, filled, filled-all, filled-done, filled_more, left-more}
-use Rattle.graph.specs.Placed.{place_table, length-place_table}
+use Rattle.std.proofs.Common.{◌≡◌, ◌<◌, length, sym, ◌∙◌, arith}
 use Rattle.rules.specs.Records.{record_count}
-use Rattle.graph.specs.Sections.{place_if}
-use mathlib.Core.List.{[]}
-use lib.Dec.{eqb}
-use lib.Seq.{length-sets}
-use lib.ListN.{length}
-use native.Mathlib.Omega.{arith}
-use mathlib.Core.Path.{◌≡◌, refl, sym, ap, ◌∙◌}
-use Prim.Native.Nat.{◌+◌}
+use Rattle.graph.specs.Zeros.{sets-padded}
+use Rattle.graph.specs.Placed.{places_of, place_table, length-place_table}
+use Rattle.graph.proofs.Filling.{filling-start, filling-room, filling-here, filling-other, filling-count, filling-done}
 use Rattle.graph.proofs.places.places_of.Goals as goal
+use Rattle.graph.proofs.places.places_of.Goals.{Then-kind_at-kind, then-kind_at-kind, else-kind_at-kind}
 
 pub loop-i-init : goal.loop-i-init
-loop-i-init c =
-    let s = c.args.s.now in
-    let k = c.args.k in (omega arith, refl, omega (arith, ap length (places_from-all s k)), filled-all s k c.args.places.now)
+loop-i-init c = filling-start _ _ _
 
-pub note-found-requires : goal.note-found-requires
-note-found-requires c =
-    omega (arith, c.requires.0)
+-- there is a place for one more
+room : (c : Then-kind_at-kind) → c.loop-i.found < length (places_of c.args.kind c.args.file.bytes.now)
+room c =
+    filling-room _ _ _ _ _ _ c.loop-i.invariant (omega (arith, c.loop-i-test.true, c.record_count-records.ensures))
+    (sym c.kind_at.ensures.0 ∙ c.if-kind_at-kind.true)
+
+pub offset_bounds-places-found : goal.offset_bounds-places-found
+offset_bounds-places-found c = omega (arith, room c, c.requires.0)
+
+pub bounds-places-found : goal.bounds-places-found
+bounds-places-found c = omega (arith, room c, c.requires.0)
+
+pub overflow_add-found : goal.overflow_add-found
+overflow_add-found c = omega (arith, room c, c.requires.0)
 
 pub loop-i-preserved : goal.loop-i-preserved
 loop-i-preserved c =
-    let loop = c.loop-i in
-    let kind_at = c.kind_at in
-    let note = c.note-found in
-    let s = c.args.s.now in
-    let wanted = c.args.k in
-    let k = kind_at.ensures.0 in
-    let l = left-more s wanted loop.i kind_at.result (search rules) k in
-    let f = filled_more s wanted loop.i kind_at.result (search rules) k loop.places loop.found in (
-      search rules,
-      ap length note.ensures.0 ∙ length-sets loop.places loop.found (place_if (eqb kind_at.result wanted) loop.i []) ∙ loop.invariant.1,
-      omega (arith, note.ensures.1),
-      (λ t. filled s wanted (note.ensures.0 t) (note.ensures.1 t) (loop.i + 1)) ∙ sym f ∙ loop.invariant.3,
-    )
-
-pub offset_bounds-places-found : goal.offset_bounds-places-found
-offset_bounds-places-found c = omega (arith, c.requires.0)
-
-pub bounds-places-found : goal.bounds-places-found
-bounds-places-found c = omega (arith, c.requires.0)
+    let s = c.args.file.bytes.now in
+    let l : c.loop-i.i < record_count s = omega (arith, c.loop-i-test.true, c.record_count-records.ensures) in
+    let h = c.loop-i.invariant in
+    elim c.if-kind_at-kind.branch [
+      | then-kind_at-kind w ↦
+          rw (w.places-is, w.found-is)
+          (filling-here s c.args.kind c.args.places.now _ _ _ h l (sym c.kind_at.ensures.0 ∙ w.if-kind_at-kind.true))
+      | else-kind_at-kind w ↦
+          rw (w.places-is, w.found-is)
+          (filling-other s c.args.kind c.args.places.now _ _ _ h l (λ e. w.if-kind_at-kind.false (c.kind_at.ensures.0 ∙ e)))
+    ]
 
 pub returns : goal.returns
 returns c =
-    let s = c.args.s.now in
-    let k = c.args.k in
-    let e : c.loop-i.i ≡ record_count s = omega arith in (
-      omega (arith, ap length (places_from-done s k c.loop-i.i e)),
-      sym (filled-done s k c.loop-i.places c.loop-i.found c.loop-i.i e) ∙ c.loop-i.invariant.3
+    let s = c.args.file.bytes.now in
+    let k = c.args.kind in
+    let h = c.loop-i.invariant in
+    let end = c.record_count-records.ensures in
+    let last : c.loop-i.i ≡ c.record_count-records.result = omega arith in (
+      filling-count s k _ _ _ _ h _ end last,
+      filling-done s k _ _ _ _ h _ end last
           ∙ sets-padded c.args.places.now (place_table k s) c.requires.1 (omega (arith, length-place_table k s, c.requires.0)),
     )

@@ -1,11 +1,8 @@
 -- `graph::predecessors::link_predecessors` meets its contract.
+use Rattle.graph.specs.Walk.{links_of, OnLists}
 use Rattle.graph.proofs.Linking.{Listing}
-use Rattle.graph.specs.Links.{links}
-use Prim.Native.Nat.{◌-◌}
 use Rattle.graph.proofs.predecessors.link_predecessors.Given as goal
 
-abbrev pub invariant-loop-done : goal.invariant-loop-done
-invariant-loop-done l = Listing l.s (links l.initial.first l.initial.from l.initial.next 0) (links l.first l.from l.next l.used) (l.count - l.done)
-
-abbrev pub decreases-loop-done : goal.decreases-loop-done
-decreases-loop-done l = l.count - l.done
+abbrev pub invariant-loop-i : goal.invariant-loop-i
+invariant-loop-i l =
+    OnLists l.initial.lists l.lists × Listing l.reachable.blocks.file.bytes.now (links_of l.initial.lists) (links_of l.lists) l.i

@@ -1,80 +1,44 @@
 -- `graph::walk::post_order` meets its contract.
-use Rattle.graph.proofs.Walking.{start-ready, turn-ready, turn-less, end-numbered}
-use Rattle.graph.specs.ByTable.{some, places-long, start-less}
-use Rattle.graph.specs.Tables.{tables, Ready}
-use native.Mathlib.Omega.{arith}
-use mathlib.Core.Path.{refl, sym, ◌∙◌, subst}
+use Rattle.std.proofs.Common.{sym, ◌∙◌, subst, arith, rules}
+use Rattle.graph.specs.ByTable.{some}
+use Rattle.graph.specs.Tables.{Ready}
+use Rattle.graph.specs.Walk.{tables_of}
+use Rattle.graph.proofs.Walking.{start-ready, turn-ready, turn-less, handed_back}
 use Rattle.graph.proofs.walk.post_order.Goals as goal
 
-pub enter-at-requires : goal.enter-at-requires
-enter-at-requires c =
-    let s = c.args.s.now in
-    let places = c.args.places.now in
+pub enter-requires : goal.enter-requires
+enter-requires c =
     let h = c.requires in
-    let block = some s places h.given in (
-      omega (arith, places-long s places h.given),
-      start-less s places h.given 0 block,
-      omega (arith, h.room.index),
-      omega (arith, h.room.stack),
-      omega (arith, h.room.next),
-    )
+    let block = some _ _ h.given in
+    (omega (arith, c.args.blocks.counted), omega (arith, h.room.index), omega (arith, h.room.stack), omega (arith, h.room.next))
 
-pub loop-at-init : goal.loop-at-init
-loop-at-init c =
-    let enter = c.enter-at in (
-      record { order = refl; index = refl; stack = refl; next = refl },
-      subst (Ready c.args.s.now c.args.places.now) (sym (enter.ensures c.args.order.now))
-          (start-ready c.args.s.now c.args.places.now c.args.order.now c.args.index.now c.args.stack.now c.args.next.now c.requires),
-    )
+pub loop-walk-init : goal.loop-walk-init
+loop-walk-init c = (
+  search rules,
+  subst (Ready c.args.blocks.file.bytes.now c.args.blocks.places.now) (sym c.enter.ensures.value)
+      (start-ready c.args.blocks.file.bytes.now c.args.blocks.places.now c.args.order.now c.args.index.now c.args.stack.now c.args.next.now c.requires),
+)
 
-pub turn-at-requires : goal.turn-at-requires
-turn-at-requires c = (omega arith, c.loop-at.invariant.1)
+pub loop-walk-smaller : goal.loop-walk-smaller
+loop-walk-smaller c =
+    turn-less c.args.blocks.file.bytes.now c.args.blocks.places.now _ _ c.loop-walk.invariant.1 c.loop-walk-test.true c.turn.ensures.value
 
-pub loop-at-smaller : goal.loop-at-smaller
-loop-at-smaller c =
-    let loop = c.loop-at in
-    let turn = c.turn-at in
-    turn-less c.args.s.now c.args.places.now _ _ loop.invariant.1 (omega arith) turn.ensures
-
-pub loop-at-preserved : goal.loop-at-preserved
-loop-at-preserved c =
-    let opened = c.loop-at-test.true in
-    let loop = c.loop-at in
-    let turn = c.turn-at in
-    let sized = loop.invariant.0 in
-    let kept = turn.auto in (
-      record { order = kept.order ∙ sized.order; index = kept.index ∙ sized.index; stack = kept.stack ∙ sized.stack; next = kept.next ∙ sized.next },
-      turn-ready c.args.s.now c.args.places.now _ _ loop.invariant.1 opened turn.ensures,
-    )
-
-pub shape_of-order : goal.shape_of-order
-shape_of-order c = c.loop-at.invariant.0.order
-
-pub shape_of-index : goal.shape_of-index
-shape_of-index c =
-    let enter = c.enter-at in
-    let loop = c.loop-at in
-    loop.invariant.0.index ∙ enter.auto.index
-
-pub shape_of-stack : goal.shape_of-stack
-shape_of-stack c =
-    let enter = c.enter-at in
-    let loop = c.loop-at in
-    loop.invariant.0.stack ∙ enter.auto.stack
-
-pub shape_of-next : goal.shape_of-next
-shape_of-next c =
-    let enter = c.enter-at in
-    let loop = c.loop-at in
-    loop.invariant.0.next ∙ enter.auto.next
+pub loop-walk-preserved : goal.loop-walk-preserved
+loop-walk-preserved c = (
+  search rules,
+  turn-ready c.args.blocks.file.bytes.now c.args.blocks.places.now _ _ c.loop-walk.invariant.1 c.loop-walk-test.true c.turn.ensures.value,
+)
 
 pub returns : goal.returns
 returns c =
-    let enter = c.enter-at in
-    let loop = c.loop-at in
-    let sized = loop.invariant.0 in
-    let kept = enter.auto in
-    end-numbered c.args.s.now c.args.places.now _
-    (tables loop.order loop.index loop.stack loop.next loop.at.depth loop.at.count) c.requires loop.invariant.1
-    (record { order = sized.order; index = sized.index ∙ kept.index; stack = sized.stack ∙ kept.stack; next = sized.next ∙ kept.next })
-    (omega arith)
+    let walk = c.loop-walk.walk in
+    let same = c.loop-walk.invariant.0 in
+    let before = c.enter.ensures.same in
+    handed_back c.args.blocks.file.bytes.now c.args.blocks.places.now _ (tables_of walk) c.requires c.loop-walk.invariant.1
+    (record {
+      order = same.order.1 ∙ before.order.1;
+      index = same.index.1 ∙ before.index.1;
+      stack = same.stack.1 ∙ before.stack.1;
+      next = same.next.1 ∙ before.next.1;
+    })
+    (omega (arith, c.loop-walk-test.false)) _ _ _ _ (search rules) (search rules) (search rules) (search rules)

@@ -1,41 +1,25 @@
 -- `layout::tables::put_new_values` meets its contract.
 use borrow.Author.Rules.{rules}
-use Rattle.layout.specs.Sizes.{new_value_at}
-use Rattle.writing.specs.Places.{wrote-start, wrote-turn, turn-room}
-use Rattle.writing.specs.Wrote.{lent-room}
 use native.Mathlib.Omega.{arith}
-use mathlib.Core.Path.{◌≡◌, refl}
+use Prim.Native.Nat.{ℕ}
+use mathlib.Core.Bool.{false}
+use mathlib.Core.List.{map}
+use mathlib.Core.Path.{ap}
+use Rattle.std.proofs.Common.{take_all}
+use Rattle.rules.specs.declared.Record.TheVariants as record'
+use Rattle.writing.specs.Put.{put_none, put_as}
+use Rattle.layout.proofs.Mapped.{mapped_fits, mapped_turn}
 use Rattle.layout.proofs.tables.put_new_values.Goals as goal
 
-pub loop-i-init : goal.loop-i-init
-loop-i-init c = (search rules, search rules, wrote-start _ _ _)
+pub loop-size-init : goal.loop-size-init
+loop-size-init c = put_none c.args.out.now (search rules)
 
-pub slice_bounds-put-count : goal.slice_bounds-put-count
-slice_bounds-put-count c =
-    let g = new_value_at c.args.sizes.now in
-    let fits = turn-room g 0 c.loop-i.i c.loop-i.invariant.0 c.args.made c.loop-i-test.true c.requires.1 c.loop-i.invariant.2 in omega arith
+pub put-requires : goal.put-requires
+put-requires c = mapped_fits (λ (size : ℕ). record'.Value size false) c.args.sizes.now c.loop-size.size-index c.loop-size-test.true c.requires c.loop-size.invariant
 
-pub slice_bounds-put-start : goal.slice_bounds-put-start
-slice_bounds-put-start c =
-    let g = new_value_at c.args.sizes.now in
-    let fits = turn-room g 0 c.loop-i.i c.loop-i.invariant.0 c.args.made c.loop-i-test.true c.requires.1 c.loop-i.invariant.2 in omega arith
-
-pub put-n-requires : goal.put-n-requires
-put-n-requires c =
-    let g = new_value_at c.args.sizes.now in
-    let fits = turn-room g 0 c.loop-i.i c.loop-i.invariant.0 c.args.made c.loop-i-test.true c.requires.1 c.loop-i.invariant.2 in
-    (lent-room c.loop-i.out c.loop-i.at (g c.loop-i.i) (g c.loop-i.i) refl fits)
-
-pub overflow_add-at : goal.overflow_add-at
-overflow_add-at c =
-    let g = new_value_at c.args.sizes.now in
-    omega (arith, turn-room g 0 c.loop-i.i c.loop-i.invariant.0 c.args.made c.loop-i-test.true c.requires.1 c.loop-i.invariant.2, c.put-n.ensures.count)
-
-pub loop-i-preserved : goal.loop-i-preserved
-loop-i-preserved c =
-    let g = new_value_at c.args.sizes.now in
-    let fits = turn-room g 0 c.loop-i.i c.loop-i.invariant.0 c.args.made c.loop-i-test.true c.requires.1 c.loop-i.invariant.2 in
-    (search rules, search rules, wrote-turn g 0 c.loop-i.i c.loop-i.invariant.0 (g c.loop-i.i) refl c.loop-i.invariant.2 (omega arith) c.put-n.ensures)
+pub loop-size-preserved : goal.loop-size-preserved
+loop-size-preserved c =
+    mapped_turn (λ (size : ℕ). record'.Value size false) c.args.sizes.now c.loop-size.size-index c.loop-size-test.true c.requires c.loop-size.invariant c.put.ensures
 
 pub returns : goal.returns
-returns c = let e : c.loop-i.i ≡ c.args.made = omega arith in rw e at c.loop-i.invariant.2
+returns c = put_as (ap (map (λ (size : ℕ). record'.Value size false)) (take_all c.loop-size.size-index c.args.sizes.now (omega arith))) c.loop-size.invariant

@@ -1,226 +1,88 @@
 -- `layout::whole::write_function` meets its contract.
-use Rattle.layout.specs.Whole.{function_run, function-written}
-use Rattle.layout.specs.Sizes.{new_value_at, slot_at, values-inside}
-use Rattle.layout.specs.Laid.{tables-readable, block_part_at}
-use Rattle.layout.specs.BlockRuns.{copy_at}
+use borrow.Author.Rules.{rules}
+use Prim.Native.Nat.{ℕ}
+use lib.ListN.{length}
+use mathlib.Core.List.{List, ◌++◌}
+use mathlib.Core.Path.{◌≡◌, refl, sym, ap}
+use native.Mathlib.Omega.{arith}
+use Rattle.rules.specs.File.{function_in}
+use Rattle.rules.specs.declared.Record.{Record}
 use Rattle.rows.specs.Rows.{rows}
 use Rattle.writing.specs.Places.{from_to}
-use Rattle.writing.specs.Wrote.{first_fits, written-le, next_fits, both-le, wrote_then, wrote_as}
-use Rattle.rules.specs.declared.Record.{Record}
-use mathlib.Core.List.{List, ◌++◌}
-use native.Mathlib.Omega.{arith}
-use mathlib.Core.Path.{sym}
+use Rattle.writing.specs.Put.{put_as, put_then, put_front, fits_as, fits_front, first_fits, next_fits}
+use Rattle.writing.specs.Wrote.{wrote_as}
+use Rattle.writing.specs.declared.put.Output.{Output}
+use Rattle.layout.specs.BlockRuns.{copy_at}
+use Rattle.layout.specs.Laid.{block_part_at}
+use Rattle.layout.specs.Sizes.{new_value_at, slot_at, new-values-mapped, slots-mapped, values-inside}
+use Rattle.layout.specs.Whole.{function_run, function-written}
 use Rattle.layout.proofs.whole.write_function.Goals as goal
 
-pub copy_records-a-requires : goal.copy_records-a-requires
+pub copy_records-requires : goal.copy_records-requires
 unfolding function_run
-copy_records-a-requires c =
-    let b1 : List Record = from_to (copy_at c.args.s.now) 0 c.args.counts.values in
-    let b2 : List Record = from_to (new_value_at c.args.new_sizes.now) 0 c.args.counts.made in
-    let b3 : List Record = from_to (slot_at c.args.slot_sizes.now) 0 c.args.counts.slots in
-    let b4 : List Record = from_to (block_part_at c.args.s.now c.args.places.now c.args.numbers.now c.args.slots.now c.args.counts.values (rows c.args.lists.now)) 0 c.args.counts.blocks in
-    let h4 = c.requires.2 in
-    let h3 = first_fits ((b1 ++ b2) ++ b3) b4 c.args.out.now h4 in
-    let h2 = first_fits (b1 ++ b2) b3 c.args.out.now h3 in
-    let h1 = first_fits b1 b2 c.args.out.now h2 in
-    (omega arith, values-inside c.args.s.now c.requires.0.by_block.tables.given.in_order c.args.counts.values c.requires.0.value_count, h1, (tables-readable c.requires.0.by_block).in_order)
+copy_records-requires c =
+    let values : List Record = from_to (copy_at c.args.plan.file.bytes.now) 0 c.args.counts.values in
+    let new_values : List Record = from_to (new_value_at c.args.new_sizes.now) 0 c.args.counts.made in
+    let slots : List Record = from_to (slot_at c.args.slot_sizes.now) 0 c.args.counts.slots in
+    let blocks : List Record = from_to (block_part_at c.args.plan.file.bytes.now c.args.numbered.indexed.blocks.places.now c.args.plan.numbers.now c.args.plan.slots.now c.args.counts.values (rows c.args.lists.now)) 0 c.args.counts.blocks in
+    let start : Output = record { bytes = c.args.out; at = 0 } in
+    let whole = fits_front start (((values ++ new_values) ++ slots) ++ blocks) refl c.requires.2 in
+    let three = first_fits start ((values ++ new_values) ++ slots) blocks whole in
+    let two = first_fits start (values ++ new_values) slots three in
+    (omega arith, values-inside c.args.plan.file.bytes.now c.requires.0.by_block.tables.given.in_order c.args.counts.values c.requires.0.value_count, first_fits start values new_values two)
 
-pub slice_bounds-put_new_values-count : goal.slice_bounds-put_new_values-count
+pub put_new_values-requires : goal.put_new_values-requires
 unfolding function_run
-slice_bounds-put_new_values-count c =
-    let b1 : List Record = from_to (copy_at c.args.s.now) 0 c.args.counts.values in
-    let b2 : List Record = from_to (new_value_at c.args.new_sizes.now) 0 c.args.counts.made in
-    let b3 : List Record = from_to (slot_at c.args.slot_sizes.now) 0 c.args.counts.slots in
-    let b4 : List Record = from_to (block_part_at c.args.s.now c.args.places.now c.args.numbers.now c.args.slots.now c.args.counts.values (rows c.args.lists.now)) 0 c.args.counts.blocks in
-    let h4 = c.requires.2 in
-    let h3 = first_fits ((b1 ++ b2) ++ b3) b4 c.args.out.now h4 in
-    let h2 = first_fits (b1 ++ b2) b3 c.args.out.now h3 in
-    let h1 = first_fits b1 b2 c.args.out.now h2 in
-    let w1 = c.copy_records-a.ensures in
-    let l = written-le w1 b2 h2 in omega arith
+put_new_values-requires c =
+    let values : List Record = from_to (copy_at c.args.plan.file.bytes.now) 0 c.args.counts.values in
+    let new_values : List Record = from_to (new_value_at c.args.new_sizes.now) 0 c.args.counts.made in
+    let slots : List Record = from_to (slot_at c.args.slot_sizes.now) 0 c.args.counts.slots in
+    let blocks : List Record = from_to (block_part_at c.args.plan.file.bytes.now c.args.numbered.indexed.blocks.places.now c.args.plan.numbers.now c.args.plan.slots.now c.args.counts.values (rows c.args.lists.now)) 0 c.args.counts.blocks in
+    let start : Output = record { bytes = c.args.out; at = 0 } in
+    let whole = fits_front start (((values ++ new_values) ++ slots) ++ blocks) refl c.requires.2 in
+    let three = first_fits start ((values ++ new_values) ++ slots) blocks whole in
+    let two = first_fits start (values ++ new_values) slots three in
+    fits_as c.copy_records.new.out (sym (new-values-mapped c.args.new_sizes.now c.args.counts.made c.requires.0.new_room)) (next_fits c.copy_records.ensures new_values two)
 
-pub slice_bounds-put_new_values-start : goal.slice_bounds-put_new_values-start
+pub put_slots-requires : goal.put_slots-requires
 unfolding function_run
-slice_bounds-put_new_values-start c =
-    let b1 : List Record = from_to (copy_at c.args.s.now) 0 c.args.counts.values in
-    let b2 : List Record = from_to (new_value_at c.args.new_sizes.now) 0 c.args.counts.made in
-    let b3 : List Record = from_to (slot_at c.args.slot_sizes.now) 0 c.args.counts.slots in
-    let b4 : List Record = from_to (block_part_at c.args.s.now c.args.places.now c.args.numbers.now c.args.slots.now c.args.counts.values (rows c.args.lists.now)) 0 c.args.counts.blocks in
-    let h4 = c.requires.2 in
-    let h3 = first_fits ((b1 ++ b2) ++ b3) b4 c.args.out.now h4 in
-    let h2 = first_fits (b1 ++ b2) b3 c.args.out.now h3 in
-    let h1 = first_fits b1 b2 c.args.out.now h2 in
-    let w1 = c.copy_records-a.ensures in
-    let l = written-le w1 b2 h2 in omega arith
+put_slots-requires c =
+    let values : List Record = from_to (copy_at c.args.plan.file.bytes.now) 0 c.args.counts.values in
+    let new_values : List Record = from_to (new_value_at c.args.new_sizes.now) 0 c.args.counts.made in
+    let slots : List Record = from_to (slot_at c.args.slot_sizes.now) 0 c.args.counts.slots in
+    let blocks : List Record = from_to (block_part_at c.args.plan.file.bytes.now c.args.numbered.indexed.blocks.places.now c.args.plan.numbers.now c.args.plan.slots.now c.args.counts.values (rows c.args.lists.now)) 0 c.args.counts.blocks in
+    let start : Output = record { bytes = c.args.out; at = 0 } in
+    let whole = fits_front start (((values ++ new_values) ++ slots) ++ blocks) refl c.requires.2 in
+    let three = first_fits start ((values ++ new_values) ++ slots) blocks whole in
+    let two = first_fits start (values ++ new_values) slots three in
+    fits_as c.put_new_values.new.out (sym (slots-mapped c.args.slot_sizes.now c.args.counts.slots c.requires.0.slot_room)) (next_fits (put_then c.copy_records.ensures two (put_as (new-values-mapped c.args.new_sizes.now c.args.counts.made c.requires.0.new_room) c.put_new_values.ensures)) slots three)
 
-pub put_new_values-b-requires : goal.put_new_values-b-requires
+pub put_blocks-requires : goal.put_blocks-requires
 unfolding function_run
-put_new_values-b-requires c =
-    let b1 : List Record = from_to (copy_at c.args.s.now) 0 c.args.counts.values in
-    let b2 : List Record = from_to (new_value_at c.args.new_sizes.now) 0 c.args.counts.made in
-    let b3 : List Record = from_to (slot_at c.args.slot_sizes.now) 0 c.args.counts.slots in
-    let b4 : List Record = from_to (block_part_at c.args.s.now c.args.places.now c.args.numbers.now c.args.slots.now c.args.counts.values (rows c.args.lists.now)) 0 c.args.counts.blocks in
-    let h4 = c.requires.2 in
-    let h3 = first_fits ((b1 ++ b2) ++ b3) b4 c.args.out.now h4 in
-    let h2 = first_fits (b1 ++ b2) b3 c.args.out.now h3 in
-    let h1 = first_fits b1 b2 c.args.out.now h2 in
-    let w1 = c.copy_records-a.ensures in
-    (c.requires.0.new_room, next_fits w1 b2 h2)
-
-pub overflow_add-ab : goal.overflow_add-ab
-unfolding function_run
-overflow_add-ab c =
-    let b1 : List Record = from_to (copy_at c.args.s.now) 0 c.args.counts.values in
-    let b2 : List Record = from_to (new_value_at c.args.new_sizes.now) 0 c.args.counts.made in
-    let b3 : List Record = from_to (slot_at c.args.slot_sizes.now) 0 c.args.counts.slots in
-    let b4 : List Record = from_to (block_part_at c.args.s.now c.args.places.now c.args.numbers.now c.args.slots.now c.args.counts.values (rows c.args.lists.now)) 0 c.args.counts.blocks in
-    let h4 = c.requires.2 in
-    let h3 = first_fits ((b1 ++ b2) ++ b3) b4 c.args.out.now h4 in
-    let h2 = first_fits (b1 ++ b2) b3 c.args.out.now h3 in
-    let h1 = first_fits b1 b2 c.args.out.now h2 in
-    let w1 = c.copy_records-a.ensures in
-    let l = both-le w1 b2 h2 c.put_new_values-b.ensures in
-    omega (arith, l, c.well_formed)
-
-pub slice_bounds-put_slots-count : goal.slice_bounds-put_slots-count
-unfolding function_run
-slice_bounds-put_slots-count c =
-    let b1 : List Record = from_to (copy_at c.args.s.now) 0 c.args.counts.values in
-    let b2 : List Record = from_to (new_value_at c.args.new_sizes.now) 0 c.args.counts.made in
-    let b3 : List Record = from_to (slot_at c.args.slot_sizes.now) 0 c.args.counts.slots in
-    let b4 : List Record = from_to (block_part_at c.args.s.now c.args.places.now c.args.numbers.now c.args.slots.now c.args.counts.values (rows c.args.lists.now)) 0 c.args.counts.blocks in
-    let h4 = c.requires.2 in
-    let h3 = first_fits ((b1 ++ b2) ++ b3) b4 c.args.out.now h4 in
-    let h2 = first_fits (b1 ++ b2) b3 c.args.out.now h3 in
-    let h1 = first_fits b1 b2 c.args.out.now h2 in
-    let w1 = c.copy_records-a.ensures in
-    let w2 = wrote_then w1 (written-le w1 b2 h2) c.put_new_values-b.ensures in
-    let l = written-le w2 b3 h3 in omega arith
-
-pub slice_bounds-put_slots-start : goal.slice_bounds-put_slots-start
-unfolding function_run
-slice_bounds-put_slots-start c =
-    let b1 : List Record = from_to (copy_at c.args.s.now) 0 c.args.counts.values in
-    let b2 : List Record = from_to (new_value_at c.args.new_sizes.now) 0 c.args.counts.made in
-    let b3 : List Record = from_to (slot_at c.args.slot_sizes.now) 0 c.args.counts.slots in
-    let b4 : List Record = from_to (block_part_at c.args.s.now c.args.places.now c.args.numbers.now c.args.slots.now c.args.counts.values (rows c.args.lists.now)) 0 c.args.counts.blocks in
-    let h4 = c.requires.2 in
-    let h3 = first_fits ((b1 ++ b2) ++ b3) b4 c.args.out.now h4 in
-    let h2 = first_fits (b1 ++ b2) b3 c.args.out.now h3 in
-    let h1 = first_fits b1 b2 c.args.out.now h2 in
-    let w1 = c.copy_records-a.ensures in
-    let w2 = wrote_then w1 (written-le w1 b2 h2) c.put_new_values-b.ensures in
-    let l = written-le w2 b3 h3 in omega arith
-
-pub put_slots-c-requires : goal.put_slots-c-requires
-unfolding function_run
-put_slots-c-requires c =
-    let b1 : List Record = from_to (copy_at c.args.s.now) 0 c.args.counts.values in
-    let b2 : List Record = from_to (new_value_at c.args.new_sizes.now) 0 c.args.counts.made in
-    let b3 : List Record = from_to (slot_at c.args.slot_sizes.now) 0 c.args.counts.slots in
-    let b4 : List Record = from_to (block_part_at c.args.s.now c.args.places.now c.args.numbers.now c.args.slots.now c.args.counts.values (rows c.args.lists.now)) 0 c.args.counts.blocks in
-    let h4 = c.requires.2 in
-    let h3 = first_fits ((b1 ++ b2) ++ b3) b4 c.args.out.now h4 in
-    let h2 = first_fits (b1 ++ b2) b3 c.args.out.now h3 in
-    let h1 = first_fits b1 b2 c.args.out.now h2 in
-    let w1 = c.copy_records-a.ensures in
-    let w2 = wrote_then w1 (written-le w1 b2 h2) c.put_new_values-b.ensures in
-    (c.requires.0.slot_room, next_fits w2 b3 h3)
-
-pub overflow_add-abc : goal.overflow_add-abc
-unfolding function_run
-overflow_add-abc c =
-    let b1 : List Record = from_to (copy_at c.args.s.now) 0 c.args.counts.values in
-    let b2 : List Record = from_to (new_value_at c.args.new_sizes.now) 0 c.args.counts.made in
-    let b3 : List Record = from_to (slot_at c.args.slot_sizes.now) 0 c.args.counts.slots in
-    let b4 : List Record = from_to (block_part_at c.args.s.now c.args.places.now c.args.numbers.now c.args.slots.now c.args.counts.values (rows c.args.lists.now)) 0 c.args.counts.blocks in
-    let h4 = c.requires.2 in
-    let h3 = first_fits ((b1 ++ b2) ++ b3) b4 c.args.out.now h4 in
-    let h2 = first_fits (b1 ++ b2) b3 c.args.out.now h3 in
-    let h1 = first_fits b1 b2 c.args.out.now h2 in
-    let w1 = c.copy_records-a.ensures in
-    let w2 = wrote_then w1 (written-le w1 b2 h2) c.put_new_values-b.ensures in
-    let l = both-le w2 b3 h3 c.put_slots-c.ensures in
-    omega (arith, l, c.well_formed)
-
-pub slice_bounds-put_blocks-count : goal.slice_bounds-put_blocks-count
-unfolding function_run
-slice_bounds-put_blocks-count c =
-    let b1 : List Record = from_to (copy_at c.args.s.now) 0 c.args.counts.values in
-    let b2 : List Record = from_to (new_value_at c.args.new_sizes.now) 0 c.args.counts.made in
-    let b3 : List Record = from_to (slot_at c.args.slot_sizes.now) 0 c.args.counts.slots in
-    let b4 : List Record = from_to (block_part_at c.args.s.now c.args.places.now c.args.numbers.now c.args.slots.now c.args.counts.values (rows c.args.lists.now)) 0 c.args.counts.blocks in
-    let h4 = c.requires.2 in
-    let h3 = first_fits ((b1 ++ b2) ++ b3) b4 c.args.out.now h4 in
-    let h2 = first_fits (b1 ++ b2) b3 c.args.out.now h3 in
-    let h1 = first_fits b1 b2 c.args.out.now h2 in
-    let w1 = c.copy_records-a.ensures in
-    let w2 = wrote_then w1 (written-le w1 b2 h2) c.put_new_values-b.ensures in
-    let w3 = wrote_then w2 (written-le w2 b3 h3) c.put_slots-c.ensures in
-    let l = written-le w3 b4 h4 in omega arith
-
-pub slice_bounds-put_blocks-start : goal.slice_bounds-put_blocks-start
-unfolding function_run
-slice_bounds-put_blocks-start c =
-    let b1 : List Record = from_to (copy_at c.args.s.now) 0 c.args.counts.values in
-    let b2 : List Record = from_to (new_value_at c.args.new_sizes.now) 0 c.args.counts.made in
-    let b3 : List Record = from_to (slot_at c.args.slot_sizes.now) 0 c.args.counts.slots in
-    let b4 : List Record = from_to (block_part_at c.args.s.now c.args.places.now c.args.numbers.now c.args.slots.now c.args.counts.values (rows c.args.lists.now)) 0 c.args.counts.blocks in
-    let h4 = c.requires.2 in
-    let h3 = first_fits ((b1 ++ b2) ++ b3) b4 c.args.out.now h4 in
-    let h2 = first_fits (b1 ++ b2) b3 c.args.out.now h3 in
-    let h1 = first_fits b1 b2 c.args.out.now h2 in
-    let w1 = c.copy_records-a.ensures in
-    let w2 = wrote_then w1 (written-le w1 b2 h2) c.put_new_values-b.ensures in
-    let w3 = wrote_then w2 (written-le w2 b3 h3) c.put_slots-c.ensures in
-    let l = written-le w3 b4 h4 in omega arith
-
-pub put_blocks-d-requires : goal.put_blocks-d-requires
-unfolding function_run
-put_blocks-d-requires c =
-    let b1 : List Record = from_to (copy_at c.args.s.now) 0 c.args.counts.values in
-    let b2 : List Record = from_to (new_value_at c.args.new_sizes.now) 0 c.args.counts.made in
-    let b3 : List Record = from_to (slot_at c.args.slot_sizes.now) 0 c.args.counts.slots in
-    let b4 : List Record = from_to (block_part_at c.args.s.now c.args.places.now c.args.numbers.now c.args.slots.now c.args.counts.values (rows c.args.lists.now)) 0 c.args.counts.blocks in
-    let h4 = c.requires.2 in
-    let h3 = first_fits ((b1 ++ b2) ++ b3) b4 c.args.out.now h4 in
-    let h2 = first_fits (b1 ++ b2) b3 c.args.out.now h3 in
-    let h1 = first_fits b1 b2 c.args.out.now h2 in
-    let w1 = c.copy_records-a.ensures in
-    let w2 = wrote_then w1 (written-le w1 b2 h2) c.put_new_values-b.ensures in
-    let w3 = wrote_then w2 (written-le w2 b3 h3) c.put_slots-c.ensures in
-    (c.requires.0.by_block, c.requires.1, c.requires.0.block_count, next_fits w3 b4 h4)
-
-pub overflow_add-result : goal.overflow_add-result
-unfolding function_run
-overflow_add-result c =
-    let b1 : List Record = from_to (copy_at c.args.s.now) 0 c.args.counts.values in
-    let b2 : List Record = from_to (new_value_at c.args.new_sizes.now) 0 c.args.counts.made in
-    let b3 : List Record = from_to (slot_at c.args.slot_sizes.now) 0 c.args.counts.slots in
-    let b4 : List Record = from_to (block_part_at c.args.s.now c.args.places.now c.args.numbers.now c.args.slots.now c.args.counts.values (rows c.args.lists.now)) 0 c.args.counts.blocks in
-    let h4 = c.requires.2 in
-    let h3 = first_fits ((b1 ++ b2) ++ b3) b4 c.args.out.now h4 in
-    let h2 = first_fits (b1 ++ b2) b3 c.args.out.now h3 in
-    let h1 = first_fits b1 b2 c.args.out.now h2 in
-    let w1 = c.copy_records-a.ensures in
-    let w2 = wrote_then w1 (written-le w1 b2 h2) c.put_new_values-b.ensures in
-    let w3 = wrote_then w2 (written-le w2 b3 h3) c.put_slots-c.ensures in
-    let l = both-le w3 b4 h4 c.put_blocks-d.ensures in
-    omega (arith, l, c.well_formed)
+put_blocks-requires c =
+    let values : List Record = from_to (copy_at c.args.plan.file.bytes.now) 0 c.args.counts.values in
+    let new_values : List Record = from_to (new_value_at c.args.new_sizes.now) 0 c.args.counts.made in
+    let slots : List Record = from_to (slot_at c.args.slot_sizes.now) 0 c.args.counts.slots in
+    let blocks : List Record = from_to (block_part_at c.args.plan.file.bytes.now c.args.numbered.indexed.blocks.places.now c.args.plan.numbers.now c.args.plan.slots.now c.args.counts.values (rows c.args.lists.now)) 0 c.args.counts.blocks in
+    let start : Output = record { bytes = c.args.out; at = 0 } in
+    let whole = fits_front start (((values ++ new_values) ++ slots) ++ blocks) refl c.requires.2 in
+    let three = first_fits start ((values ++ new_values) ++ slots) blocks whole in
+    let two = first_fits start (values ++ new_values) slots three in
+    let counted : c.args.numbered.indexed.blocks.count ≡ c.args.counts.blocks = omega (arith, c.args.numbered.indexed.blocks.counted, c.requires.0.block_count, ap (λ (t : List ℕ). length (function_in t).blocks) c.requires.1) in
+    fits_as c.put_slots.new.out (ap (from_to (block_part_at c.args.plan.file.bytes.now c.args.numbered.indexed.blocks.places.now c.args.plan.numbers.now c.args.plan.slots.now c.args.counts.values (rows c.args.lists.now)) 0) (sym counted)) (next_fits (put_then (put_then c.copy_records.ensures two (put_as (new-values-mapped c.args.new_sizes.now c.args.counts.made c.requires.0.new_room) c.put_new_values.ensures)) three (put_as (slots-mapped c.args.slot_sizes.now c.args.counts.slots c.requires.0.slot_room) c.put_slots.ensures)) blocks whole)
 
 pub returns : goal.returns
 unfolding function_run
 returns c =
-    let b1 : List Record = from_to (copy_at c.args.s.now) 0 c.args.counts.values in
-    let b2 : List Record = from_to (new_value_at c.args.new_sizes.now) 0 c.args.counts.made in
-    let b3 : List Record = from_to (slot_at c.args.slot_sizes.now) 0 c.args.counts.slots in
-    let b4 : List Record = from_to (block_part_at c.args.s.now c.args.places.now c.args.numbers.now c.args.slots.now c.args.counts.values (rows c.args.lists.now)) 0 c.args.counts.blocks in
-    let h4 = c.requires.2 in
-    let h3 = first_fits ((b1 ++ b2) ++ b3) b4 c.args.out.now h4 in
-    let h2 = first_fits (b1 ++ b2) b3 c.args.out.now h3 in
-    let h1 = first_fits b1 b2 c.args.out.now h2 in
-    let w1 = c.copy_records-a.ensures in
-    let w2 = wrote_then w1 (written-le w1 b2 h2) c.put_new_values-b.ensures in
-    let w3 = wrote_then w2 (written-le w2 b3 h3) c.put_slots-c.ensures in
-    let w4 = wrote_then w3 (written-le w3 b4 h4) c.put_blocks-d.ensures in
-    record { wrote = w4; by_plan = λ pointer plan. wrote_as _ _ (sym (function-written c.requires.0 pointer plan)) w4 }
+    let values : List Record = from_to (copy_at c.args.plan.file.bytes.now) 0 c.args.counts.values in
+    let new_values : List Record = from_to (new_value_at c.args.new_sizes.now) 0 c.args.counts.made in
+    let slots : List Record = from_to (slot_at c.args.slot_sizes.now) 0 c.args.counts.slots in
+    let blocks : List Record = from_to (block_part_at c.args.plan.file.bytes.now c.args.numbered.indexed.blocks.places.now c.args.plan.numbers.now c.args.plan.slots.now c.args.counts.values (rows c.args.lists.now)) 0 c.args.counts.blocks in
+    let start : Output = record { bytes = c.args.out; at = 0 } in
+    let whole = fits_front start (((values ++ new_values) ++ slots) ++ blocks) refl c.requires.2 in
+    let three = first_fits start ((values ++ new_values) ++ slots) blocks whole in
+    let two = first_fits start (values ++ new_values) slots three in
+    let counted : c.args.numbered.indexed.blocks.count ≡ c.args.counts.blocks = omega (arith, c.args.numbered.indexed.blocks.counted, c.requires.0.block_count, ap (λ (t : List ℕ). length (function_in t).blocks) c.requires.1) in
+    let all = put_then (put_then (put_then c.copy_records.ensures two (put_as (new-values-mapped c.args.new_sizes.now c.args.counts.made c.requires.0.new_room) c.put_new_values.ensures)) three (put_as (slots-mapped c.args.slot_sizes.now c.args.counts.slots c.requires.0.slot_room) c.put_slots.ensures)) whole (put_as (ap (from_to (block_part_at c.args.plan.file.bytes.now c.args.numbered.indexed.blocks.places.now c.args.plan.numbers.now c.args.plan.slots.now c.args.counts.values (rows c.args.lists.now)) 0) counted) c.put_blocks.ensures) in
+    let wrote = put_front refl all (search rules) in
+    record { wrote = wrote; by_plan = λ pointer plan. wrote_as _ _ (sym (function-written c.requires.0 pointer plan)) wrote }

@@ -1,5 +1,4 @@
 -- `listing::blocks::join_rows` meets its contract.
-use Prim.Native.Nat.{◌≤◌, ◌-◌}
 use mathlib.Core.Path.{◌≡◌}
 use lib.ListN.{length}
 use Rattle.rows.specs.Rows.{rows}
@@ -7,7 +6,4 @@ use Rattle.listing.specs.Listed.{together}
 use Rattle.listing.proofs.blocks.join_rows.Given as goal
 
 abbrev pub invariant-loop-i : goal.invariant-loop-i
-invariant-loop-i l = (l.i ≤ l.count) × (length l.all ≡ 8) × (rows l.all 0 ≡ together l.i (rows l.from))
-
-abbrev pub decreases-loop-i : goal.decreases-loop-i
-decreases-loop-i l = l.count - l.i
+invariant-loop-i l = (length l.all ≡ 8) × (rows l.all 0 ≡ together l.i (rows l.from))

@@ -11,7 +11,4 @@ use Rattle.rules.specs.File.{function_in}
 use Rattle.listing.proofs.safepoints.is_reachable_safepoint.Given as goal
 
 abbrev pub invariant-loop-b : goal.invariant-loop-b
-invariant-loop-b l = (l.b ≤ l.blocks) × (get_or l.firsts l.b 0 ≤ l.i) × (there_from (function_in l.s) l.b (l.i - get_or l.firsts l.b 0) ≡ not (is_none (get_or (lists (function_in l.s)) l.i none)))
-
-abbrev pub decreases-loop-b : goal.decreases-loop-b
-decreases-loop-b l = l.blocks - l.b
+invariant-loop-b l = (get_or l.numbered.firsts.now l.b 0 ≤ l.i) × (there_from (function_in l.blocks.file.bytes.now) l.b (l.i - get_or l.numbered.firsts.now l.b 0) ≡ not (is_none (get_or (lists (function_in l.blocks.file.bytes.now)) l.i none)))

@@ -1,32 +1,30 @@
 -- `planner::blocks::plan_block` meets its contract.
-use native.Mathlib.Omega.{arith}
-use mathlib.Core.Path.{◌∙◌}
-use Rattle.graph.specs.ByTable.{places-long}
+use Rattle.planning.specs.Lent.{along, tables_of}
+use Rattle.std.specs.Prelude.{◌+◌, ◌-◌, length, get_or}
+use Rattle.rows.specs.Rows.{rows}
+use Rattle.listing.specs.Stepping.{heads_from}
+use Rattle.planner.specs.Backward.{InstructionsNoted, Walk}
+use Rattle.planning_edges.specs.Noted.{Within, Ready}
+use Rattle.spiller.specs.Instructions.{any_kind}
+use Rattle.rules.specs.File.{function_in}
+use Rattle.std.proofs.Common.{sym}
 use Rattle.planner.specs.Blocks.{block-walk, parameters-ready, block-done}
-use borrow.Author.Rules.{rules}
 use Rattle.planner.proofs.blocks.plan_block.Goals as goal
 
-pub bounds-places-b : goal.bounds-places-b
-bounds-places-b c = omega (arith, c.requires.2.in_file, places-long c.args.s.now c.args.places.now c.requires.1)
-
-pub bounds-places-b-2 : goal.bounds-places-b-2
-bounds-places-b-2 c = omega (arith, c.requires.2.in_file, places-long c.args.s.now c.args.places.now c.requires.1)
-
-pub run_end-front-requires : goal.run_end-front-requires
-run_end-front-requires c = (search rules, search rules, c.requires.0.in_order)
-
-pub plan_instructions-done-requires : goal.plan_instructions-done-requires
-plan_instructions-done-requires c =
-    let ready = block-walk c.args.s.now c.args.lists.now c.args.outs.now c.args.spilled.now c.args.at.block c.args.at.behind _ _ c.requires.2 c.requires.0 c.run_end-front.result c.run_end-front.ensures.0 c.args.asked.now c.args.steps.now c.args.sizes.now c.args.p c.args.numbers.now c.requires.3 _ _ _ c.ask_all-count.ensures in
-    (c.requires.0, c.requires.1, ready.0, ready.1)
+pub plan_instructions-requires : goal.plan_instructions-requires
+plan_instructions-requires c =
+    let t = tables_of c.args.spiller.now in
+    let end = get_or c.args.blocks.places.now (c.args.at.block + 1) 0 in
+    let front = c.run_end-front.result in
+    along (λ u ns. Walk c.args.blocks.spilled.file.bytes.now c.args.lists.now (get_or c.args.blocks.places.now c.args.at.block 0 + 1) front end c.args.at.behind × Ready (function_in c.args.blocks.spilled.file.bytes.now) (Within c.args.blocks.spilled.file.bytes.now any_kind front end) end (end - front) u ns) (sym c.ask_all.ensures.rest.0) (sym c.ask_all.ensures.rest.1)
+    (block-walk c.args.blocks.spilled.file.bytes.now c.args.lists.now c.args.outs.now c.args.blocks.spilled.row.now c.args.at.block c.args.at.behind _ _ c.requires.0 c.args.blocks.spilled.reading c.run_end-front.result c.run_end-front.ensures.0 t.asked t.steps t.sizes t.progress c.args.spiller.now.numbers.now c.requires.1 _ _ c.ask_all.new.self.noted c.ask_all.ensures.slotted)
 
 pub plan_definitions-requires : goal.plan_definitions-requires
 plan_definitions-requires c =
-    let ready = parameters-ready c.args.s.now c.args.lists.now c.args.outs.now c.args.spilled.now c.args.at.block c.args.at.behind _ _ c.requires.2 c.requires.0 c.run_end-front.result c.run_end-front.ensures.0 c.args.asked.now c.args.steps.now c.args.sizes.now c.args.p c.args.numbers.now c.requires.3 _ _ _ c.ask_all-count.ensures _ _ c.plan_instructions-done.ensures in
-    (c.requires.0, ready.0, ready.1)
+    let t = tables_of c.args.spiller.now in
+    parameters-ready c.args.blocks.spilled.file.bytes.now c.args.lists.now c.args.outs.now c.args.blocks.spilled.row.now c.args.at.block c.args.at.behind _ _ c.requires.0 c.args.blocks.spilled.reading c.run_end-front.result c.run_end-front.ensures.0 t.asked t.steps t.sizes t.progress c.args.spiller.now.numbers.now c.requires.1 _ _ c.ask_all.new.self.noted c.ask_all.ensures.slotted _ _ (along (λ u ns. InstructionsNoted c.args.blocks.spilled.file.bytes.now c.args.lists.now (rows c.args.blocks.spilled.row.now 0) (get_or c.args.blocks.places.now (c.args.at.block + 1) 0) u.progress.pointer c.run_end-front.result (c.args.at.behind - length (heads_from c.args.blocks.spilled.file.bytes.now c.run_end-front.result (get_or c.args.blocks.places.now (c.args.at.block + 1) 0))) u ns (tables_of c.plan_instructions.new.spiller) c.plan_instructions.new.spiller.numbers.now) c.ask_all.ensures.rest.0 c.ask_all.ensures.rest.1 c.plan_instructions.ensures.noted)
 
-pub shape_of-asked : goal.shape_of-asked
-shape_of-asked c = c.plan_instructions-done.ensures.kept.asked_long ∙ c.ask_all-count.ensures.asked_long
-
-pub returns : goal.returns
-returns c = block-done c.args.s.now c.args.lists.now c.args.outs.now c.args.spilled.now c.args.at.block c.args.at.behind _ _ c.requires.2 c.requires.0 c.run_end-front.result c.run_end-front.ensures.0 c.args.asked.now c.args.steps.now c.args.sizes.now c.args.p c.args.numbers.now c.requires.3 _ _ _ c.ask_all-count.ensures _ _ c.plan_instructions-done.ensures _ _ c.plan_definitions.ensures
+pub returns-clause-noted : goal.returns-clause-noted
+returns-clause-noted c =
+    let t = tables_of c.args.spiller.now in
+    block-done c.args.blocks.spilled.file.bytes.now c.args.lists.now c.args.outs.now c.args.blocks.spilled.row.now c.args.at.block c.args.at.behind _ _ c.requires.0 c.args.blocks.spilled.reading c.run_end-front.result c.run_end-front.ensures.0 t.asked t.steps t.sizes t.progress c.args.spiller.now.numbers.now c.requires.1 _ _ c.ask_all.new.self.noted c.ask_all.ensures.slotted _ _ (along (λ u ns. InstructionsNoted c.args.blocks.spilled.file.bytes.now c.args.lists.now (rows c.args.blocks.spilled.row.now 0) (get_or c.args.blocks.places.now (c.args.at.block + 1) 0) u.progress.pointer c.run_end-front.result (c.args.at.behind - length (heads_from c.args.blocks.spilled.file.bytes.now c.run_end-front.result (get_or c.args.blocks.places.now (c.args.at.block + 1) 0))) u ns (tables_of c.plan_instructions.new.spiller) c.plan_instructions.new.spiller.numbers.now) c.ask_all.ensures.rest.0 c.ask_all.ensures.rest.1 c.plan_instructions.ensures.noted) _ _ c.plan_definitions.ensures.walked

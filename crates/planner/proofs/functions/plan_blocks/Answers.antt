@@ -1,50 +1,25 @@
 -- `planner::functions::plan_blocks` meets its contract.
 use borrow.Author.Rules.{rules}
-use native.Mathlib.Omega.{arith}
+use lib.ListN.{length}
 use mathlib.Core.Path.{refl}
-use Rattle.graph.specs.ByTable.{index-long}
-use Rattle.planning.specs.Standing.{tables}
-use Rattle.planner.specs.AllBlocks.{blocks_start, block_read, block-ready, block-turn, blocks_end}
+use Rattle.planning.specs.Lent.{lent-then, tables_of}
+use Rattle.planner.specs.AllBlocks.{block_read, block-ready, block-turn}
 use Rattle.planner.proofs.functions.plan_blocks.Goals as goal
 
-pub loop-i-init : goal.loop-i-init
-loop-i-init c = (omega arith, blocks_start c.args.s.now c.args.places.now c.args.order.now c.args.lists.now c.args.outs.now c.args.firsts.now c.args.count c.requires.1 c.requires.2 c.requires.3 (tables c.args.asked.now c.args.steps.now c.args.sizes.now c.args.p) c.args.numbers.now c.args.p.pointer)
-
-pub offset_bounds-order-i : goal.offset_bounds-order-i
-offset_bounds-order-i c = search (rules, index-long c.requires.1 c.loop-i.i c.loop-i-test.true)
-
-pub bounds-order-i : goal.bounds-order-i
-bounds-order-i c = index-long c.requires.1 c.loop-i.i c.loop-i-test.true
-
 pub overflow_add-at : goal.overflow_add-at
-overflow_add-at c = search (rules, (block_read c.args.s.now c.args.places.now c.args.order.now c.args.lists.now c.args.outs.now c.args.firsts.now c.args.count c.requires.1 c.requires.2 c.requires.3 (tables c.args.asked.now c.args.steps.now c.args.sizes.now c.args.p) c.args.numbers.now c.loop-i.i c.loop-i-test.true).0)
+overflow_add-at c = search (rules, (block_read c.args.reachable.blocks.file.bytes.now c.args.reachable.blocks.places.now c.args.reachable.order.now c.args.lists.now c.args.outs.now c.args.firsts.now (length c.args.reachable.order.now) c.args.reachable.walked c.requires.1 c.requires.2 (tables_of c.args.spiller.now) c.args.spiller.now.numbers.now c.loop-block.block-index c.loop-block-test.true).0)
 
-pub offset_bounds-firsts-b : goal.offset_bounds-firsts-b
-offset_bounds-firsts-b c = search (rules, (block_read c.args.s.now c.args.places.now c.args.order.now c.args.lists.now c.args.outs.now c.args.firsts.now c.args.count c.requires.1 c.requires.2 c.requires.3 (tables c.args.asked.now c.args.steps.now c.args.sizes.now c.args.p) c.args.numbers.now c.loop-i.i c.loop-i-test.true).0)
+pub offset_bounds-firsts-block : goal.offset_bounds-firsts-block
+offset_bounds-firsts-block c = search (rules, (block_read c.args.reachable.blocks.file.bytes.now c.args.reachable.blocks.places.now c.args.reachable.order.now c.args.lists.now c.args.outs.now c.args.firsts.now (length c.args.reachable.order.now) c.args.reachable.walked c.requires.1 c.requires.2 (tables_of c.args.spiller.now) c.args.spiller.now.numbers.now c.loop-block.block-index c.loop-block-test.true).0)
 
-pub bounds-firsts-b : goal.bounds-firsts-b
-bounds-firsts-b c = (block_read c.args.s.now c.args.places.now c.args.order.now c.args.lists.now c.args.outs.now c.args.firsts.now c.args.count c.requires.1 c.requires.2 c.requires.3 (tables c.args.asked.now c.args.steps.now c.args.sizes.now c.args.p) c.args.numbers.now c.loop-i.i c.loop-i-test.true).0
+pub bounds-firsts-block : goal.bounds-firsts-block
+bounds-firsts-block c = (block_read c.args.reachable.blocks.file.bytes.now c.args.reachable.blocks.places.now c.args.reachable.order.now c.args.lists.now c.args.outs.now c.args.firsts.now (length c.args.reachable.order.now) c.args.reachable.walked c.requires.1 c.requires.2 (tables_of c.args.spiller.now) c.args.spiller.now.numbers.now c.loop-block.block-index c.loop-block-test.true).0
 
-pub plan_block-done-requires : goal.plan_block-done-requires
-plan_block-done-requires c = (c.requires.0, c.requires.1.given, (block_read c.args.s.now c.args.places.now c.args.order.now c.args.lists.now c.args.outs.now c.args.firsts.now c.args.count c.requires.1 c.requires.2 c.requires.3 (tables c.args.asked.now c.args.steps.now c.args.sizes.now c.args.p) c.args.numbers.now c.loop-i.i c.loop-i-test.true).1, block-ready c.args.s.now c.args.places.now c.args.order.now c.args.lists.now c.args.outs.now c.args.firsts.now c.args.count c.requires.1 c.requires.2 c.requires.3 (tables c.args.asked.now c.args.steps.now c.args.sizes.now c.args.p) c.args.numbers.now c.loop-i.i c.loop-i-test.true c.args.p.pointer (tables c.loop-i.asked c.loop-i.steps c.loop-i.sizes c.loop-i.done) c.loop-i.numbers c.loop-i.invariant.1 c.requires.4 c.requires.5 c.requires.6)
+pub plan_block-requires : goal.plan_block-requires
+plan_block-requires c = ((block_read c.args.reachable.blocks.file.bytes.now c.args.reachable.blocks.places.now c.args.reachable.order.now c.args.lists.now c.args.outs.now c.args.firsts.now (length c.args.reachable.order.now) c.args.reachable.walked c.requires.1 c.requires.2 (tables_of c.args.spiller.now) c.args.spiller.now.numbers.now c.loop-block.block-index c.loop-block-test.true).1, block-ready c.args.reachable.blocks.file.bytes.now c.args.reachable.blocks.places.now c.args.reachable.order.now c.args.lists.now c.args.outs.now c.args.firsts.now (length c.args.reachable.order.now) c.args.reachable.walked c.requires.1 c.requires.2 (tables_of c.args.spiller.now) c.args.spiller.now.numbers.now c.loop-block.block-index c.loop-block-test.true c.args.spiller.now.pointer (tables_of c.loop-block.spiller) c.loop-block.spiller.numbers.now c.loop-block.invariant.0 c.requires.3 c.requires.4 c.requires.5)
 
-pub overflow_add-i : goal.overflow_add-i
-overflow_add-i c = omega (arith, c.loop-i-test.true, c.ranges.count)
-
-pub loop-i-preserved : goal.loop-i-preserved
-loop-i-preserved c = (omega (arith, c.loop-i-test.true), block-turn c.args.s.now c.args.places.now c.args.order.now c.args.lists.now c.args.outs.now c.args.firsts.now c.args.count c.requires.1 c.requires.2 c.requires.3 (tables c.args.asked.now c.args.steps.now c.args.sizes.now c.args.p) c.args.numbers.now c.loop-i.i c.loop-i-test.true c.args.p.pointer (tables c.loop-i.asked c.loop-i.steps c.loop-i.sizes c.loop-i.done) c.loop-i.numbers c.loop-i.invariant.1 refl _ _ c.plan_block-done.ensures)
-
-pub shape_of-asked : goal.shape_of-asked
-shape_of-asked c = c.loop-i.invariant.1.kept.asked_long
-
-pub shape_of-steps : goal.shape_of-steps
-shape_of-steps c = c.loop-i.invariant.1.kept.steps_long
-
-pub shape_of-sizes : goal.shape_of-sizes
-shape_of-sizes c = c.loop-i.invariant.1.kept.sizes_long
-
-pub shape_of-numbers : goal.shape_of-numbers
-shape_of-numbers c = c.loop-i.invariant.1.long
-
-pub returns : goal.returns
-returns c = blocks_end c.args.s.now c.args.places.now c.args.order.now c.args.lists.now c.args.outs.now c.args.firsts.now c.args.count c.requires.1 c.requires.2 c.requires.3 (tables c.args.asked.now c.args.steps.now c.args.sizes.now c.args.p) c.args.numbers.now c.args.p.pointer c.loop-i.i _ _ c.loop-i-test.false c.loop-i.invariant.1
+pub loop-block-preserved : goal.loop-block-preserved
+loop-block-preserved c = (
+  block-turn c.args.reachable.blocks.file.bytes.now c.args.reachable.blocks.places.now c.args.reachable.order.now c.args.lists.now c.args.outs.now c.args.firsts.now (length c.args.reachable.order.now) c.args.reachable.walked c.requires.1 c.requires.2 (tables_of c.args.spiller.now) c.args.spiller.now.numbers.now c.loop-block.block-index c.loop-block-test.true c.args.spiller.now.pointer (tables_of c.loop-block.spiller) c.loop-block.spiller.numbers.now c.loop-block.invariant.0 refl _ _ c.plan_block.ensures.noted,
+  lent-then c.args.spiller.now c.loop-block.spiller c.plan_block.new.spiller c.loop-block.invariant.1 c.plan_block.ensures.lent,
+)

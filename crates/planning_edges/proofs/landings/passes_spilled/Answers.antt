@@ -1,20 +1,18 @@
 -- `planning_edges::landings::passes_spilled` meets its contract.
-use native.Mathlib.Omega.{arith}
 use borrow.Author.Rules.{rules}
-use Rattle.planning_edges.specs.Passing.{passing-here, passing-later, passing-none}
-use Rattle.rules.specs.Liveness.{is_spilled}
-use Rattle.rules.specs.File.{function_in}
-use mathlib.Core.Path.{refl, sym, ◌∙◌}
+use borrow.Author.Tests.{tests}
+use Rattle.std.specs.Prelude.{is_some, refl}
+use Rattle.std.proofs.Common.{◌∙◌}
+use Rattle.std.proofs.lemmas.Iterator.{YieldsList-from_range}
+use Rattle.std.proofs.lemmas.Iterator.Search.{any_from_yields_List}
+use Rattle.rows.specs.Rows.{rows}
+use Rattle.planning.specs.Operands.{among_of, operand_at}
+use Rattle.planning_edges.specs.Passing.{passing-some}
 use Rattle.planning_edges.proofs.landings.passes_spilled.Goals as goal
 
-pub loop-i-init : goal.loop-i-init
-loop-i-init c = (search rules, search rules, refl)
-
-pub returns-then-passes_at : goal.returns-then-passes_at
-returns-then-passes_at c = sym (passing-here (is_spilled (function_in c.args.s.now)) c.args.s.now c.loop-i.i c.args.end c.loop-i-test.true c.requires.2 (sym c.passes_at.ensures ∙ c.if-passes_at.true)) ∙ c.loop-i.invariant.2
-
-pub loop-i-preserved : goal.loop-i-preserved
-loop-i-preserved c = (search rules, search rules, passing-later (is_spilled (function_in c.args.s.now)) c.args.s.now c.loop-i.i c.args.end c.loop-i-test.true c.requires.2 (sym c.passes_at.ensures ∙ c.if-passes_at.false) ∙ c.loop-i.invariant.2)
-
 pub returns : goal.returns
-returns c = sym (passing-none (is_spilled (function_in c.args.s.now)) c.args.s.now c.loop-i.i c.args.end (omega arith)) ∙ c.loop-i.invariant.2
+returns c =
+    let s = c.args.spilled.file.bytes.now in
+    let row = c.args.spilled.row.now in
+    any_from_yields_List (λ place. is_some (among_of (rows row 0) (operand_at s 8 place))) _ _ c.any.result c.any.ensures.ran (YieldsList-from_range c.args.start c.args.end _ refl refl) (λ x b q k. search (rules, tests))
+    ∙ passing-some s row c.args.spilled.reading c.args.start c.args.end c.requires.0 c.requires.1

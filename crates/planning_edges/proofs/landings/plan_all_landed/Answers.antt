@@ -1,37 +1,25 @@
 -- `planning_edges::landings::plan_all_landed` meets its contract.
 use Rattle.planning_edges.specs.Landed.{landed_at}
 use Rattle.planning.specs.Walking.{walked_start, walked-turn, room-turn}
-use Rattle.planning.specs.Standing.{tables}
+use Rattle.planning.specs.Lent.{lent-none, lent-then, tables_of}
 use Rattle.rules.specs.File.{function_in}
 use native.Mathlib.Omega.{arith}
 use Prim.Native.Nat.{◌-◌}
 use mathlib.Core.Path.{◌≡◌}
 use Rattle.planning_edges.proofs.landings.plan_all_landed.Goals as goal
 
-pub loop-i-init : goal.loop-i-init
-loop-i-init c =
+pub loop-place-init : goal.loop-place-init
+loop-place-init c =
     let none : c.args.start - c.args.start ≡ 0 = omega arith in
-    (omega arith, c.requires.1.up, rw none (walked_start (function_in c.args.s.now) (landed_at c.args.s.now c.args.p.pointer c.args.start c.args.first) c.args.start (tables c.args.asked.now c.args.steps.now c.args.sizes.now c.args.p) c.args.numbers.now))
+    (rw none (walked_start (function_in c.args.spilled.file.bytes.now) (landed_at c.args.spilled.file.bytes.now c.args.spiller.now.pointer c.args.start c.args.first) c.args.start (tables_of c.args.spiller.now) c.args.spiller.now.numbers.now), lent-none c.args.spiller.now)
 
-pub plan_landed-done-requires : goal.plan_landed-done-requires
-plan_landed-done-requires c = (c.requires.0, c.loop-i.invariant.0, omega (arith, c.loop-i-test.true, c.requires.1.in_file), omega (arith, c.loop-i-test.true, c.requires.1.in_numbers, c.loop-i.invariant.2.long), c.requires.2, room-turn (function_in c.args.s.now) (λ pointer. landed_at c.args.s.now pointer c.args.start c.args.first) c.args.start c.loop-i.i c.loop-i.invariant.0 _ _ _ _ c.loop-i.invariant.2 c.args.end c.loop-i-test.true c.requires.3)
+pub plan_landed-requires : goal.plan_landed-requires
+plan_landed-requires c = (c.loop-place.auto.place, omega (arith, c.loop-place-test.true, c.requires.0.in_file), omega (arith, c.loop-place-test.true, c.requires.0.in_numbers, c.loop-place.invariant.0.long), c.requires.1, room-turn (function_in c.args.spilled.file.bytes.now) (λ pointer. landed_at c.args.spilled.file.bytes.now pointer c.args.start c.args.first) c.args.start c.loop-place.place c.loop-place.auto.place (tables_of c.args.spiller.now) (tables_of c.loop-place.spiller) c.args.spiller.now.numbers.now c.loop-place.spiller.numbers.now c.loop-place.invariant.0 c.args.end c.loop-place-test.true c.requires.2)
 
-pub loop-i-preserved : goal.loop-i-preserved
-loop-i-preserved c = (omega (arith, c.loop-i.invariant.0), omega (arith, c.loop-i-test.true), walked-turn (function_in c.args.s.now) (λ pointer. landed_at c.args.s.now pointer c.args.start c.args.first) c.args.start c.loop-i.i c.loop-i.invariant.0 _ _ _ _ c.loop-i.invariant.2 _ _ c.plan_landed-done.ensures)
+pub loop-place-preserved : goal.loop-place-preserved
+loop-place-preserved c = (walked-turn (function_in c.args.spilled.file.bytes.now) (λ pointer. landed_at c.args.spilled.file.bytes.now pointer c.args.start c.args.first) c.args.start c.loop-place.place c.loop-place.auto.place (tables_of c.args.spiller.now) (tables_of c.loop-place.spiller) c.args.spiller.now.numbers.now c.loop-place.spiller.numbers.now c.loop-place.invariant.0 _ _ c.plan_landed.ensures.walked, lent-then c.args.spiller.now c.loop-place.spiller c.plan_landed.new.spiller c.loop-place.invariant.1 c.plan_landed.ensures.lent)
 
-pub shape_of-asked : goal.shape_of-asked
-shape_of-asked c = c.loop-i.invariant.2.kept.asked_long
-
-pub shape_of-steps : goal.shape_of-steps
-shape_of-steps c = c.loop-i.invariant.2.kept.steps_long
-
-pub shape_of-sizes : goal.shape_of-sizes
-shape_of-sizes c = c.loop-i.invariant.2.kept.sizes_long
-
-pub shape_of-numbers : goal.shape_of-numbers
-shape_of-numbers c = c.loop-i.invariant.2.long
-
-pub returns : goal.returns
-returns c =
-    let all : c.loop-i.i ≡ c.args.end = omega (arith, c.loop-i-test.false, c.loop-i.invariant.1) in
-    rw all at c.loop-i.invariant.2
+pub returns-clause-walked : goal.returns-clause-walked
+returns-clause-walked c =
+    let all : c.loop-place.place ≡ c.args.end = omega (arith, c.loop-place-test.false, c.loop-place.auto.place-end c.requires.0.up) in
+    rw all at c.loop-place.invariant.0

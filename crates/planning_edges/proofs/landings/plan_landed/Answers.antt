@@ -1,20 +1,16 @@
 -- `planning_edges::landings::plan_landed` meets its contract.
+use Rattle.planning.specs.Lent.{tables_of}
 use Rattle.planning_edges.specs.Landed.{word-walked, use-walked}
 use Rattle.rules.specs.declared.Words.{Words}
 use Rattle.rules.specs.Graph.{size_of}
 use Rattle.rules.specs.File.{function_in}
 use mathlib.Core.Path.{ap, ◌∙◌, sym}
-use borrow.Author.Rules.{rules}
 use Rattle.planning_edges.proofs.landings.plan_landed.Goals as goal
 
-pub is_word-requires : goal.is_word-requires
-is_word-requires c = (search rules, c.requires.0.in_order)
+pub returns-then-not-is_word-clause-walked : goal.returns-then-not-is_word-clause-walked
+returns-then-not-is_word-clause-walked c = use-walked c.args.spilled.file.bytes.now c.args.spiller.now.pointer c.args.start c.args.first c.args.place _ _ _ _ (sym c.is_word.ensures ∙ c.if-not-is_word.true) c.plan_use.ensures.walked
 
-pub words_from-w-requires : goal.words_from-w-requires
-words_from-w-requires c = c.requires.0.in_order
-
-pub returns-then-is_word : goal.returns-then-is_word
-returns-then-is_word c = word-walked c.args.s.now c.args.p.pointer c.args.start c.args.first c.args.place _ _ _ c.args.numbers.now c.args.p c.size_of.result c.requires.5 (sym c.is_word.ensures ∙ c.if-is_word.true) (c.size_of.ensures ∙ ap (λ (w : Words). size_of (function_in c.args.s.now) w.second) c.words_from-w.ensures)
-
-pub returns : goal.returns
-returns c = use-walked c.args.s.now c.args.p.pointer c.args.start c.args.first c.args.place _ _ _ _ (sym c.is_word.ensures ∙ c.if-is_word.false) c.plan_use.ensures
+pub returns-clause-walked : goal.returns-clause-walked
+returns-clause-walked c =
+    let t = tables_of c.args.spiller.now in
+    word-walked c.args.spilled.file.bytes.now t.progress.pointer c.args.start c.args.first c.args.place t.asked t.steps t.sizes c.args.spiller.now.numbers.now t.progress c.size_of.result c.requires.4 (sym c.is_word.ensures ∙ c.if-not-is_word.false) (c.size_of.ensures ∙ ap (λ (w : Words). size_of (function_in c.args.spilled.file.bytes.now) w.second) c.words_from-w.ensures)

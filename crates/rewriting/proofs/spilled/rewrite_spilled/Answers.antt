@@ -9,20 +9,19 @@ use Rattle.rewriting.specs.Planning.{plannable, plan-found, own-lent}
 use Rattle.rewriting.proofs.spilled.rewrite_spilled.Goals as goal
 
 pub plan_records-planned-requires : goal.plan_records-planned-requires
-plan_records-planned-requires c = (plannable c.requires.0, own-lent, c.requires.2)
+plan_records-planned-requires c = (plannable c.requires.0, own-lent, c.args.numbered.numbered)
 
 pub write_planned-requires : goal.write_planned-requires
 write_planned-requires c = (
   plan-found c.requires.0 c.plan_records-planned.ensures (omega (arith, c.plan_records-planned.auto.numbers, length-replicate {A = ℕ} largest_records 0))
       (c.plan_records-planned.auto.new_sizes ∙ length-replicate {A = ℕ} (2 * largest_records) 0),
   c.requires.1,
-  c.requires.2,
 )
 
 pub returns : goal.returns
 returns c =
-    let A = c.args in
+    let s = c.args.numbered.indexed.blocks.file.bytes.now in
     let own = c.plan_records-planned.ensures.pointed in (
-      c.write_planned.ensures.0 ∙ ap (λ (x : ℕ). rewriting_answer (A.s).now x (length (A.out).now)) own,
-      c.write_planned.ensures.1 ∙ ap (λ (x : ℕ). rewriting_output (A.s).now x (length (A.out).now)) own,
+      c.write_planned.ensures.0 ∙ ap (λ (x : ℕ). rewriting_answer s x (length c.args.out.now)) own,
+      c.write_planned.ensures.1 ∙ ap (λ (x : ℕ). rewriting_output s x (length c.args.out.now)) own,
     )

@@ -1,47 +1,57 @@
 -- `services::liveness::liveness` meets its contract.
-use mathlib.Core.Bool.{not}
-use lib.ListN.{length}
-use Rattle.acceptance.specs.Survey.{blank-tables}
-use Rattle.acceptance.specs.Stages.{said-no, said-yes}
-use Rattle.services.proofs.LiveAnswers.{verdict-found, refused-answer, refused-ins, refused-outs, accepted-answer, accepted-ins, accepted-outs, tables-lent}
-use mathlib.Core.Path.{◌∙◌, ap}
+use Rattle.std.proofs.Common.{◌≡◌, ◌<◌, ◌≤◌, rules, arith, length, replicate, ◌∙◌}
+use mathlib.Core.Logic.{◌⊎◌, inl, inr}
+use Rattle.std.proofs.lemmas.Result.{err_from_is_err_and}
+use Rattle.rules.specs.Limits.{table_words}
+use Rattle.services.proofs.LiveAnswers.{file-refused, table-short, either-short, accepted-answer, accepted-ins, accepted-outs, tables-lent}
 use Rattle.services.proofs.liveness.liveness.Goals as goal
+use Rattle.services.proofs.liveness.liveness.Goals.{then-ins-lt-TABLE_WORDS-via-then-ins-lt-TABLE_WORDS, then-ins-lt-TABLE_WORDS-via-else-ins-lt-TABLE_WORDS+then-outs-lt-TABLE_WORDS}
 
-pub survey-found-requires : goal.survey-found-requires
-survey-found-requires c = blank-tables
+pub returns-in_err-survey : goal.returns-in_err-survey
+returns-in_err-survey c =
+    let p = err_from_is_err_and c.from_residual.result c.from_residual.ensures.1 in
+    let refused = file-refused c.args.s.now (length c.args.ins.now) (length c.args.outs.now) c.in_err-survey.ensures in
+    let ins : c.fill.new.self ≡ replicate (length c.args.ins.now) 0 = search rules in
+    let outs : c.fill-2.new.self ≡ replicate (length c.args.outs.now) 0 = search rules in
+    (rw (p.1, p.2) refused.0, ins ∙ refused.1, outs ∙ refused.2)
 
-pub returns-then-not-is_accepted : goal.returns-then-not-is_accepted
-returns-then-not-is_accepted c =
-    let s = c.args.s.now in
+pub returns-then-ins-lt-TABLE_WORDS : goal.returns-then-ins-lt-TABLE_WORDS
+returns-then-ins-lt-TABLE_WORDS c =
+    let ins : c.fill.new.self ≡ replicate (length c.args.ins.now) 0 = search rules in
+    let outs : c.fill-2.new.self ≡ replicate (length c.args.outs.now) 0 = search rules in
     let n = length c.args.ins.now in
     let m = length c.args.outs.now in
-    let found = verdict-found s n m c.survey-found.ensures.says c.too_short-short.ensures c.or_refused-verdict.ensures in
-    let no = said-no c.is_accepted.ensures found (ap not c.if-not-is_accepted.true) in
-    (refused-answer s n m no _ found, c.clear_words.ensures ∙ refused-ins s n m no, c.clear_words-2.ensures ∙ refused-outs s n m no)
+    let one : (n < table_words) ⊎ (m < table_words) =
+    elim c.then-ins-lt-TABLE_WORDS.branch [
+      | then-ins-lt-TABLE_WORDS-via-then-ins-lt-TABLE_WORDS w ↦ inl (omega (arith, c.fill.ensures.len, w.if-ins-lt-TABLE_WORDS.true))
+      | then-ins-lt-TABLE_WORDS-via-else-ins-lt-TABLE_WORDS+then-outs-lt-TABLE_WORDS w ↦
+          inr (omega (arith, c.fill-2.ensures.len, w.if-outs-lt-TABLE_WORDS.true))
+    ] in
+    let short = table-short c.in_ok-survey.survey.file.bytes.now n m c.in_ok-survey.survey.accepted (either-short n m one) in
+    rw (← c.in_ok-survey.ensures) (short.0, ins ∙ short.1, outs ∙ short.2)
 
-pub live_tables-counted-requires : goal.live_tables-counted-requires
-live_tables-counted-requires c =
-    let s = c.args.s.now in
-    let n = length c.args.ins.now in
-    let m = length c.args.outs.now in
-    let found = verdict-found s n m c.survey-found.ensures.says c.too_short-short.ensures c.or_refused-verdict.ensures in
-    let yes = said-yes c.is_accepted.ensures found (ap not c.if-not-is_accepted.false) in
-    tables-lent s n m yes blank-tables c.survey-found.ensures _ _ c.clear_words.ensures c.clear_words-2.ensures
-
-pub shape_of-ins : goal.shape_of-ins
-shape_of-ins c = c.live_tables-counted.auto.ins ∙ c.clear_words.auto.t
-
-pub shape_of-outs : goal.shape_of-outs
-shape_of-outs c = c.live_tables-counted.auto.outs ∙ c.clear_words-2.auto.t
+pub live_tables-requires : goal.live_tables-requires
+live_tables-requires c =
+    let survey = c.in_ok-survey.survey in
+    let ins : c.fill.new.self ≡ replicate (length c.args.ins.now) 0 = search rules in
+    let outs : c.fill-2.new.self ≡ replicate (length c.args.outs.now) 0 = search rules in
+    rw c.reachable.ensures.0
+    (tables-lent survey.file.bytes.now (length c.args.ins.now) (length c.args.outs.now) survey.accepted
+    (omega (arith, c.fill.ensures.len, c.if-ins-lt-TABLE_WORDS.false)) (omega (arith, c.fill-2.ensures.len, c.if-outs-lt-TABLE_WORDS.false))
+    _ _ ins outs)
 
 pub returns : goal.returns
 returns c =
-    let s = c.args.s.now in
+    let survey = c.in_ok-survey.survey in
+    let s = survey.file.bytes.now in
     let n = length c.args.ins.now in
     let m = length c.args.outs.now in
-    let found = verdict-found s n m c.survey-found.ensures.says c.too_short-short.ensures c.or_refused-verdict.ensures in
-    let yes = said-yes c.is_accepted.ensures found (ap not c.if-not-is_accepted.false) in (
-      accepted-answer s n m yes _ _ _ found c.live_tables-counted.ensures.2 c.live_tables-counted.ensures.3,
-      accepted-ins s n m yes _ (c.live_tables-counted.auto.ins ∙ c.clear_words.auto.t) (λ i. (c.type_inv.ins i).fits) c.live_tables-counted.ensures.0,
-      accepted-outs s n m yes _ (c.live_tables-counted.auto.outs ∙ c.clear_words-2.auto.t) (λ i. (c.type_inv.outs i).fits) c.live_tables-counted.ensures.1,
+    let ins-long : table_words ≤ n = omega (arith, c.fill.ensures.len, c.if-ins-lt-TABLE_WORDS.false) in
+    let outs-long : table_words ≤ m = omega (arith, c.fill-2.ensures.len, c.if-outs-lt-TABLE_WORDS.false) in
+    let live = c.live_tables in
+    let found = rw c.reachable.ensures.0 at live.ensures in
+    rw (← c.in_ok-survey.ensures) (
+      accepted-answer s n m survey.accepted ins-long outs-long _ _ found.2 found.3,
+      accepted-ins s n m survey.accepted ins-long outs-long _ (live.auto.ins ∙ c.fill.ensures.len) (λ i. (c.type_inv.ins i).fits) found.0,
+      accepted-outs s n m survey.accepted ins-long outs-long _ (live.auto.outs ∙ c.fill-2.ensures.len) (λ i. (c.type_inv.outs i).fits) found.1,
     )

@@ -7,71 +7,56 @@ use Rattle.records.specs.Places.{rest}
 use Rattle.rules.specs.Refusals.{fit}
 use Rattle.rules.specs.File.{function_in}
 use native.Mathlib.Omega.{arith}
-use mathlib.Core.Path.{◌≡◌, refl, sym, ap, ◌∙◌}
+use mathlib.Core.Path.{◌≡◌, sym, ap, ◌∙◌}
 use mathlib.Core.Bool.{true, false, ◌&&◌}
 use Prim.Native.Nat.{◌+◌}
 use Rattle.soundness.proofs.fitting.arguments_fit.Goals as goal
+use Rattle.soundness.proofs.fitting.arguments_fit.Goals.{then-b-ne-PARAMETER-via-then-b-ne-PARAMETER, then-b-ne-PARAMETER-via-else-b-ne-PARAMETER+then-not-argument_fits}
 
-pub loop-i-init : goal.loop-i-init
-loop-i-init c = (search rules, search rules, refl)
-
-pub returns-then-a-ne8 : goal.returns-then-a-ne8
-returns-then-a-ne8 c =
-    let s = c.args.s.now in
+pub returns-then-a-ne-EDGE_ARGUMENT : goal.returns-then-a-ne-EDGE_ARGUMENT
+returns-then-a-ne-EDGE_ARGUMENT c =
+    let s = c.args.file.bytes.now in
     let at = c.loop-i in
     let a = c.words_from-a in
     let b = c.words_from-b in
-    sym (fit-last (function_in s) s at.p b.result b.ensures at.invariant.1 at.i a.result a.ensures at.invariant.0 c.if-a-ne8.true) ∙ at.invariant.2
+    sym (fit-last (function_in s) s at.p b.result b.ensures at.invariant.0 at.i a.result a.ensures (search rules) c.if-a-ne-EDGE_ARGUMENT.true) ∙ at.invariant.1
 
-pub returns-then-b-ne3 : goal.returns-then-b-ne3
-returns-then-b-ne3 c =
-    let s = c.args.s.now in
-    let at = c.loop-i in
-    let a = c.words_from-a in
-    let b = c.words_from-b in
-    sym (fit-short (function_in s) s at.p b.result b.ensures at.invariant.1 at.i a.result a.ensures at.invariant.0 c.if-a-ne8.false c.if-b-ne3.true) ∙ at.invariant.2
-
-pub returns-then-not-argument_fits : goal.returns-then-not-argument_fits
-returns-then-not-argument_fits c =
-    let s = c.args.s.now in
+pub returns-then-b-ne-PARAMETER : goal.returns-then-b-ne-PARAMETER
+returns-then-b-ne-PARAMETER c =
+    let s = c.args.file.bytes.now in
     let f = function_in s in
     let at = c.loop-i in
     let a = c.words_from-a in
     let b = c.words_from-b in
-    let fits = c.argument_fits in
-    let no : argument_fits f (argument a.result) b.result.second ≡ false = sym fits.ensures ∙ c.if-not-argument_fits.true in
-    sym (ap (λ x. x && fit f (arguments_first (rest s (at.i + 1))) (parameters_first (rest s (at.p + 1)))) no)
-    ∙ sym (fit_next f s at.p b.result b.ensures at.invariant.1 at.i a.result a.ensures at.invariant.0 c.if-a-ne8.false c.if-b-ne3.false) ∙ at.invariant.2
-
-pub overflow_add-p : goal.overflow_add-p
-overflow_add-p c =
-    let s = c.args.s.now in
-    let at = c.loop-i in
-    let b = c.words_from-b in
-    let l = (leads-more s at.p b.result b.ensures at.invariant.1 3 (omega arith) c.if-b-ne3.false).0 in
-    omega arith
+    elim c.then-b-ne-PARAMETER.branch [
+      | then-b-ne-PARAMETER-via-then-b-ne-PARAMETER w ↦
+          sym (fit-short f s at.p b.result b.ensures at.invariant.0 at.i a.result a.ensures (search rules) c.if-a-ne-EDGE_ARGUMENT.false w.if-b-ne-PARAMETER.true)
+      | then-b-ne-PARAMETER-via-else-b-ne-PARAMETER+then-not-argument_fits w ↦
+          let no : argument_fits f (argument a.result) b.result.second ≡ false = sym w.argument_fits.ensures ∙ w.if-not-argument_fits.true in
+          sym (ap (λ x. x && fit f (arguments_first (rest s (at.i + 1))) (parameters_first (rest s (at.p + 1)))) no)
+          ∙ sym (fit_next f s at.p b.result b.ensures at.invariant.0 at.i a.result a.ensures (search rules) c.if-a-ne-EDGE_ARGUMENT.false w.if-b-ne-PARAMETER.false)
+    ] ∙ at.invariant.1
 
 pub loop-i-preserved : goal.loop-i-preserved
 loop-i-preserved c =
-    let s = c.args.s.now in
+    let s = c.args.file.bytes.now in
     let f = function_in s in
     let at = c.loop-i in
     let a = c.words_from-a in
     let b = c.words_from-b in
     let fits = c.argument_fits in
-    let l = (leads-more s at.p b.result b.ensures at.invariant.1 3 (omega arith) c.if-b-ne3.false).0 in
+    let l = (leads-more s at.p b.result b.ensures at.invariant.0 3 (omega arith) c.if-b-ne-PARAMETER.false).0 in
     let yes : argument_fits f (argument a.result) b.result.second ≡ true = sym fits.ensures ∙ c.if-not-argument_fits.false in (
-      search rules,
       omega arith,
       sym (ap (λ x. x && fit f (arguments_first (rest s (at.i + 1))) (parameters_first (rest s (at.p + 1)))) yes)
-          ∙ sym (fit_next f s at.p b.result b.ensures at.invariant.1 at.i a.result a.ensures at.invariant.0 c.if-a-ne8.false c.if-b-ne3.false) ∙ at.invariant.2,
+          ∙ sym (fit_next f s at.p b.result b.ensures at.invariant.0 at.i a.result a.ensures (search rules) c.if-a-ne-EDGE_ARGUMENT.false c.if-b-ne-PARAMETER.false) ∙ at.invariant.1,
     )
 
 pub returns : goal.returns
 returns c =
-    let s = c.args.s.now in
+    let s = c.args.file.bytes.now in
     let f = function_in s in
     let at = c.loop-i in
-    let b = c.words_from-b-2 in
-    sym (ap (λ rs. fit f (arguments_first rs) (parameters_first (rest s at.p))) (rest_end s at.i at.invariant.0 (search rules))
-    ∙ fit_none f s at.p b.result b.ensures at.invariant.1) ∙ at.invariant.2
+    let b = c.words_from in
+    sym (ap (λ rs. fit f (arguments_first rs) (parameters_first (rest s at.p))) (rest_end s at.i (search rules) (search rules))
+    ∙ fit_none f s at.p b.result b.ensures at.invariant.0) ∙ at.invariant.1

@@ -5,7 +5,4 @@ use Prim.Native.Nat.{◌≤◌}
 use Rattle.soundness.proofs.fitting.block_edges_fit.Given as goal
 
 abbrev pub invariant-loop-i : goal.invariant-loop-i
-invariant-loop-i l = (l.start ≤ l.i) × (l.i ≤ l.end) × (fitting_from l.s l.i ≡ fitting_from l.s l.end)
-
-abbrev pub decreases-loop-i : goal.decreases-loop-i
-decreases-loop-i l = l.i
+invariant-loop-i l = (l.start ≤ l.i) × (fitting_from l.blocks.file.bytes.now l.i ≡ fitting_from l.blocks.file.bytes.now l.end)

@@ -5,11 +5,7 @@ use Rattle.rules.specs.Records.{records}
 use Rattle.rules.specs.File.{function_in}
 use lib.ListN.{get_or}
 use mathlib.Core.Path.{◌≡◌}
-use Prim.Native.Nat.{◌≤◌, ◌-◌}
 use Rattle.soundness.proofs.fitting.edges_fit.Given as goal
 
 abbrev pub invariant-loop-b : goal.invariant-loop-b
-invariant-loop-b l = (l.b ≤ l.blocks) × (fitting_from l.s (get_or l.places l.b 0) ≡ fitting (function_in l.s) (records l.s))
-
-abbrev pub decreases-loop-b : goal.decreases-loop-b
-decreases-loop-b l = l.blocks - l.b
+invariant-loop-b l = (fitting_from l.blocks.file.bytes.now (get_or l.blocks.places.now l.b 0) ≡ fitting (function_in l.blocks.file.bytes.now) (records l.blocks.file.bytes.now))

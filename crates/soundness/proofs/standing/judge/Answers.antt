@@ -1,8 +1,9 @@
 -- `soundness::standing::judge` meets its contract.
-use Rattle.soundness.proofs.StandingCases.{not-terminator, stand-block, stand-instruction, stand-result, stand-edge, stand-argument, stand-context, stand-other}
+use Rattle.soundness.proofs.StandingCases.{not-terminator, stand-parameter, stand-use, stand-block, stand-instruction, stand-result, stand-edge, stand-argument, stand-context, stand-other}
 use Rattle.soundness.specs.Standing.{flags_behind}
 use Rattle.checks.specs.Numbers.{numbers_fit}
 use mathlib.Core.Path.{◌≡◌, sym, ◌∙◌}
+use mathlib.Core.Logic.{inl, inr}
 use native.Mathlib.Omega.{arith}
 use borrow.Author.Rules.{rules}
 use borrow.Author.Tests.{ne_eqb}
@@ -14,7 +15,13 @@ returns-in-2 c = let w = c.args.w in let f = c.args.flags in let h : w.kind ≡ 
 
 pub returns-in-3 : goal.returns-in-3
 unfolding numbers_fit flags_behind
-returns-in-3 c = let w = c.args.w in let f = c.args.flags in let h : w.kind ≡ 3 = omega arith in (simp h, sym (stand-other f w (ne_eqb w.kind 2 (λ e. omega arith)) (ne_eqb w.kind 4 (λ e. omega arith)) (ne_eqb w.kind 5 (λ e. omega arith)) (ne_eqb w.kind 7 (λ e. omega arith)) (ne_eqb w.kind 8 (λ e. omega arith)) (ne_eqb w.kind 9 (λ e. omega arith))), simp h)
+returns-in-3 c =
+    let w = c.args.w in
+    let f = c.args.flags in
+    elim c.in-3.is [
+      | inl h ↦ (simp h, sym (stand-parameter f w h), simp h)
+      | inr h ↦ (simp h, sym (stand-use f w h), simp h)
+    ]
 
 pub returns-in-4 : goal.returns-in-4
 unfolding numbers_fit flags_behind
@@ -23,10 +30,6 @@ returns-in-4 c = let w = c.args.w in let f = c.args.flags in let h : w.kind ≡ 
 pub returns-in-5 : goal.returns-in-5
 unfolding numbers_fit flags_behind
 returns-in-5 c = let w = c.args.w in let f = c.args.flags in let h : w.kind ≡ 5 = omega arith in (simp h, not-terminator f ∙ sym (stand-result f w h), simp h)
-
-pub returns-in-6 : goal.returns-in-6
-unfolding numbers_fit flags_behind
-returns-in-6 c = let w = c.args.w in let f = c.args.flags in let h : w.kind ≡ 6 = omega arith in (simp h, sym (stand-other f w (ne_eqb w.kind 2 (λ e. omega arith)) (ne_eqb w.kind 4 (λ e. omega arith)) (ne_eqb w.kind 5 (λ e. omega arith)) (ne_eqb w.kind 7 (λ e. omega arith)) (ne_eqb w.kind 8 (λ e. omega arith)) (ne_eqb w.kind 9 (λ e. omega arith))), simp h)
 
 pub returns-in-7 : goal.returns-in-7
 unfolding numbers_fit flags_behind

@@ -1,48 +1,30 @@
 -- `spiller::instructions::plan_safepoint` meets its contract.
 use Rattle.spiller.specs.InstructionSteps.{results-ready, slots-ready, safepoint-edges-ready, safepoint-uses-ready, safepoint-done}
-use Rattle.planning.specs.Standing.{tables}
-use native.Mathlib.Omega.{arith}
-use mathlib.Core.Path.{◌∙◌}
+use Rattle.planning.specs.Lent.{along, tables_of}
+use Rattle.std.specs.Prelude.{true}
+use Rattle.planning_edges.specs.Edges.{EdgesNoted}
 use Rattle.spiller.proofs.instructions.plan_safepoint.Goals as goal
 
-pub overflow_add-first : goal.overflow_add-first
-overflow_add-first c = omega (arith, c.requires.3.inside)
+pub plan_definitions-requires : goal.plan_definitions-requires
+plan_definitions-requires c = results-ready c.args.blocks.spilled.file.bytes.now c.args.at.place c.args.at.end c.requires.1 c.run_end-a.result c.run_end-b.result c.run_end-a.ensures.0 c.run_end-b.ensures.0 (tables_of c.args.spiller.now) c.args.spiller.now.numbers.now c.requires.2
 
-pub run_end-a-requires : goal.run_end-a-requires
-run_end-a-requires c = (omega (arith, c.requires.3.inside), c.requires.3.in_file, c.requires.0.in_order)
+pub ask_all-requires : goal.ask_all-requires
+ask_all-requires c =
+    let t = tables_of c.plan_definitions.new.self in
+    slots-ready c.args.blocks.spilled.file.bytes.now c.args.at.place c.args.at.end c.requires.1 c.run_end-a.result c.run_end-b.result c.run_end-a.ensures.0 c.run_end-b.ensures.0 (tables_of c.args.spiller.now) c.args.spiller.now.numbers.now c.requires.2 c.args.blocks.spilled.row.now c.args.lists.now c.args.at.number t.asked t.steps t.sizes t.progress _ c.plan_definitions.ensures.walked c.args.blocks.spilled.reading.row c.requires.0
 
-pub run_end-b-requires : goal.run_end-b-requires
-run_end-b-requires c = (c.run_end-a.ensures.1, c.requires.3.in_file, c.requires.0.in_order)
-
-pub plan_definitions-defined-requires : goal.plan_definitions-defined-requires
-plan_definitions-defined-requires c =
-    let ready = results-ready c.args.s.now c.args.at.place c.args.at.end c.requires.3 c.run_end-a.result c.run_end-b.result c.run_end-a.ensures.0 c.run_end-b.ensures.0 (tables c.args.asked.now c.args.steps.now c.args.sizes.now c.args.p) c.args.numbers.now c.requires.4 in
-    (c.requires.0, ready.0, ready.1)
-
-pub ask_all-count-requires : goal.ask_all-count-requires
-ask_all-count-requires c = slots-ready c.args.s.now c.args.at.place c.args.at.end c.requires.3 c.run_end-a.result c.run_end-b.result c.run_end-a.ensures.0 c.run_end-b.ensures.0 (tables c.args.asked.now c.args.steps.now c.args.sizes.now c.args.p) c.args.numbers.now c.requires.4 c.args.spilled.now c.args.lists.now c.args.at.number _ _ _ _ _ c.plan_definitions-defined.ensures c.requires.0.row c.requires.2
-
-pub plan_edges-passed-requires : goal.plan_edges-passed-requires
-plan_edges-passed-requires c =
-    let ready = safepoint-edges-ready c.args.s.now c.args.at.place c.args.at.end c.requires.3 c.run_end-a.result c.run_end-b.result c.run_end-a.ensures.0 c.run_end-b.ensures.0 (tables c.args.asked.now c.args.steps.now c.args.sizes.now c.args.p) c.args.numbers.now c.requires.4 c.args.spilled.now c.args.lists.now c.args.at.number _ _ _ _ _ c.plan_definitions-defined.ensures _ _ _ _ c.ask_all-count.ensures in
-    (c.requires.0, c.requires.1, ready.0, ready.1, ready.2, ready.3)
+pub plan_edges-requires : goal.plan_edges-requires
+plan_edges-requires c =
+    let t = tables_of c.plan_definitions.new.self in
+    rw (c.ask_all.ensures.rest.0, c.ask_all.ensures.rest.1)
+    (safepoint-edges-ready c.args.blocks.spilled.file.bytes.now c.args.at.place c.args.at.end c.requires.1 c.run_end-a.result c.run_end-b.result c.run_end-a.ensures.0 c.run_end-b.ensures.0 (tables_of c.args.spiller.now) c.args.spiller.now.numbers.now c.requires.2 c.args.blocks.spilled.row.now c.args.lists.now c.args.at.number t.asked t.steps t.sizes t.progress _ c.plan_definitions.ensures.walked _ _ _ c.ask_all.new.self.noted c.ask_all.ensures.slotted)
 
 pub plan_uses-requires : goal.plan_uses-requires
 plan_uses-requires c =
-    let ready = safepoint-uses-ready c.args.s.now c.args.at.place c.args.at.end c.requires.3 c.run_end-a.result c.run_end-b.result c.run_end-a.ensures.0 c.run_end-b.ensures.0 (tables c.args.asked.now c.args.steps.now c.args.sizes.now c.args.p) c.args.numbers.now c.requires.4 c.args.spilled.now c.args.lists.now c.args.at.number _ _ _ _ _ c.plan_definitions-defined.ensures _ _ _ _ c.ask_all-count.ensures _ _ c.plan_edges-passed.ensures in
-    (c.requires.0, ready.0, ready.1)
+    let t = tables_of c.plan_definitions.new.self in
+    safepoint-uses-ready c.args.blocks.spilled.file.bytes.now c.args.at.place c.args.at.end c.requires.1 c.run_end-a.result c.run_end-b.result c.run_end-a.ensures.0 c.run_end-b.ensures.0 (tables_of c.args.spiller.now) c.args.spiller.now.numbers.now c.requires.2 c.args.blocks.spilled.row.now c.args.lists.now c.args.at.number t.asked t.steps t.sizes t.progress _ c.plan_definitions.ensures.walked _ _ _ c.ask_all.new.self.noted c.ask_all.ensures.slotted _ _ (along (λ u ns. EdgesNoted c.args.blocks.spilled.file.bytes.now u.progress.pointer true c.run_end-b.result c.args.at.end u ns (tables_of c.plan_edges.new.spiller) c.plan_edges.new.spiller.numbers.now) c.ask_all.ensures.rest.0 c.ask_all.ensures.rest.1 c.plan_edges.ensures.noted)
 
-pub shape_of-asked : goal.shape_of-asked
-shape_of-asked c = c.plan_uses.ensures.kept.asked_long ∙ c.plan_edges-passed.ensures.kept.asked_long ∙ c.ask_all-count.ensures.asked_long
-
-pub shape_of-steps : goal.shape_of-steps
-shape_of-steps c = c.plan_uses.ensures.kept.steps_long ∙ c.plan_edges-passed.ensures.kept.steps_long ∙ c.ask_all-count.ensures.steps_long ∙ c.plan_definitions-defined.ensures.kept.steps_long
-
-pub shape_of-sizes : goal.shape_of-sizes
-shape_of-sizes c = c.plan_uses.ensures.kept.sizes_long ∙ c.plan_edges-passed.ensures.kept.sizes_long ∙ c.plan_definitions-defined.ensures.kept.sizes_long
-
-pub shape_of-numbers : goal.shape_of-numbers
-shape_of-numbers c = c.plan_uses.ensures.long ∙ c.plan_edges-passed.ensures.long ∙ c.plan_definitions-defined.ensures.long
-
-pub returns : goal.returns
-returns c = safepoint-done c.args.s.now c.args.at.place c.args.at.end c.requires.3 c.run_end-a.result c.run_end-b.result c.run_end-a.ensures.0 c.run_end-b.ensures.0 (tables c.args.asked.now c.args.steps.now c.args.sizes.now c.args.p) c.args.numbers.now c.requires.4 c.args.spilled.now c.args.lists.now c.args.at.number _ _ _ _ _ c.plan_definitions-defined.ensures _ _ _ _ c.ask_all-count.ensures _ _ c.plan_edges-passed.ensures _ _ c.plan_uses.ensures
+pub returns-clause-noted : goal.returns-clause-noted
+returns-clause-noted c =
+    let t = tables_of c.plan_definitions.new.self in
+    safepoint-done c.args.blocks.spilled.file.bytes.now c.args.at.place c.args.at.end c.requires.1 c.run_end-a.result c.run_end-b.result c.run_end-a.ensures.0 c.run_end-b.ensures.0 (tables_of c.args.spiller.now) c.args.spiller.now.numbers.now c.requires.2 c.args.blocks.spilled.row.now c.args.lists.now c.args.at.number t.asked t.steps t.sizes t.progress _ c.plan_definitions.ensures.walked _ _ _ c.ask_all.new.self.noted c.ask_all.ensures.slotted _ _ (along (λ u ns. EdgesNoted c.args.blocks.spilled.file.bytes.now u.progress.pointer true c.run_end-b.result c.args.at.end u ns (tables_of c.plan_edges.new.spiller) c.plan_edges.new.spiller.numbers.now) c.ask_all.ensures.rest.0 c.ask_all.ensures.rest.1 c.plan_edges.ensures.noted) _ _ c.plan_uses.ensures.walked

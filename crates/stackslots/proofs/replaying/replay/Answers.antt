@@ -1,13 +1,15 @@
 -- `stackslots::replaying::replay` meets its contract.
-use Rattle.stackslots.proofs.Replays.{made-few, replay-ready, replay-done}
-use native.Mathlib.Omega.{arith}
+use borrow.Author.Rules.{rules}
+use mathlib.Core.Path.{◌≡◌, ap, ◌∙◌}
+use lib.ListN.{length, replicate}
+use Rattle.rules.specs.Limits.{largest_values}
+use Rattle.holders.specs.declared.Holder.{Holder}
+use Rattle.holders.specs.Table.{nobody, holders_after}
+use Rattle.stackslots.proofs.Replays.{replay-done}
 use Rattle.stackslots.proofs.replaying.replay.Goals as goal
 
-pub replayed-table-requires : goal.replayed-table-requires
-replayed-table-requires c = replay-ready c.requires.0 c.find_places-made.ensures c.requires.1
-
-pub sizes_of-requires : goal.sizes_of-requires
-sizes_of-requires c = let few = made-few c.requires.0 c.find_places-made.ensures in (omega (arith, few), omega (arith, few, c.requires.2))
-
 pub returns : goal.returns
-returns c = replay-done c.requires.0 c.find_places-made.ensures c.replayed-table.result c.replayed-table.ensures c.args.sizes.now _ c.sizes_of.ensures c.requires.2
+returns c =
+    let blank : c.default-holders.result ≡ nobody = search rules in
+    let table = c.replay.ensures ∙ ap (λ (h : Holder). holders_after c.args.file.bytes.now c.args.steps.now c.find_places.new.places (length c.args.steps.now) (replicate largest_values h)) blank in
+    replay-done c.requires.0 c.find_places.ensures.found c.replay.new.table table c.args.sizes.now _ c.sizes_of.ensures c.requires.2 _ _ _ (search rules) (search rules) (search rules)

@@ -1,18 +1,16 @@
 -- `writing_edges::edges::put_edge_loads` meets its contract.
-use lib.ListN.{length}
-use mathlib.Core.List.{[]}
-use mathlib.Core.Path.{refl, sym, ap}
-use native.Mathlib.Omega.{arith}
-use Rattle.writing_edges.specs.Edges.{loads-none, loads-some}
-use Rattle.writing.specs.Wrote.{wrote_as, wrote_none}
+use mathlib.Core.Path.{refl, sym}
 use borrow.Author.Rules.{rules}
+use Rattle.writing.specs.Put.{put_none, put_as, fits_as}
+use Rattle.writing_edges.specs.Edges.{loads-none, loads-some}
 use Rattle.writing_edges.proofs.edges.put_edge_loads.Goals as goal
 
 pub put_parts-requires : goal.put_parts-requires
-put_parts-requires c = (c.requires.0, search rules, c.requires.2, omega (arith, c.requires.3, ap length (loads-none c.args.s.now c.args.numbers.now c.args.slots.now c.args.p c.args.end c.requires.1 c.requires.2 c.if-numbers-p-eq0.true)), refl)
+put_parts-requires c =
+    (search rules, c.requires.1, fits_as c.args.out.now (loads-none c.args.plan.file.bytes.now c.args.plan.numbers.now c.args.plan.slots.now c.args.p c.args.end c.requires.0 c.requires.1 c.if-plan-p-eq0.true) c.requires.2, refl)
 
-pub returns-then-numbers-p-eq0 : goal.returns-then-numbers-p-eq0
-returns-then-numbers-p-eq0 c = wrote_as _ _ (sym (loads-none c.args.s.now c.args.numbers.now c.args.slots.now c.args.p c.args.end c.requires.1 c.requires.2 c.if-numbers-p-eq0.true)) c.put_parts.ensures
+pub returns-then-plan-p-eq0 : goal.returns-then-plan-p-eq0
+returns-then-plan-p-eq0 c = put_as (sym (loads-none c.args.plan.file.bytes.now c.args.plan.numbers.now c.args.plan.slots.now c.args.p c.args.end c.requires.0 c.requires.1 c.if-plan-p-eq0.true)) c.put_parts.ensures
 
-pub returns : goal.returns
-returns c = wrote_as [] _ (sym (loads-some c.args.s.now c.args.numbers.now c.args.slots.now c.args.p c.args.end c.requires.1 c.requires.2 c.if-numbers-p-eq0.false)) (wrote_none _)
+pub returns-else-plan-p-eq0 : goal.returns-else-plan-p-eq0
+returns-else-plan-p-eq0 c = put_as (sym (loads-some c.args.plan.file.bytes.now c.args.plan.numbers.now c.args.plan.slots.now c.args.p c.args.end c.requires.0 c.requires.1 c.if-plan-p-eq0.false)) (put_none _ (search rules))
