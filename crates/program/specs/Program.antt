@@ -1,13 +1,16 @@
 -- What the program answers, by the buffer that it lends to rewriting.
-use Rattle.std.specs.Prelude.{ℕ, ◌<◌, ◌≤◌, ◌≡◌, refl, Bool, length, replicate, ltb, Result, Err}
-use Rattle.std.proofs.Common.{sym, ap, lt-ltb, le-ltb}
+use Rattle.std.specs.Prelude.{ℕ, ◌<◌, ◌≤◌, ◌≡◌, refl, Bool, length, replicate, ltb, Result, Ok, Err}
+use Rattle.std.proofs.Common.{sym, ap, ◌∙◌, arith, lt-ltb, le-ltb}
 use Rattle.std.proofs.Math.Bool.{true, false}
 use mathlib.Core.List.{List, []}
+use Rattle.rules.specs.Lists.{padded}
 use Rattle.rules.specs.Limits.{program_input, program_output, program_pointer}
-use Rattle.rules.specs.Services.{rewriting_answer, rewriting_output, written, program_writes}
+use Rattle.rules.specs.Refusals.{refusal_number}
+use Rattle.rules.specs.Services.{rewriting_answer, rewriting_output, final_records, refused_line, written, program_writes}
 use Rattle.rules.specs.declared.Refusal.{Refusal}
 use Rattle.rules.specs.declared.Refusal.TheVariants as refusal
 use Rattle.rules.specs.declared.RewritingAnswer.{RewritingAnswer}
+use Rattle.graph.specs.Zeros.{length-padded-le}
 
 module _ (s : List ℕ) (n : ℕ) where
   abbrev answer_by : Bool → Result RewritingAnswer Refusal
@@ -49,3 +52,40 @@ program-writes s = go (ltb program_input (length s))
         (written (answer_by s program_output long) s (buffer_by s program_output long))
     go true = refl
     go false = refl
+
+-- the bytes of a line
+abbrev pub line_bytes : ℕ
+line_bytes = 16
+
+-- a line stands in its bytes
+pub line-there :
+    (line bytes : List ℕ) (count : ℕ) → bytes ≡ padded line_bytes line → count ≡ length line → count ≤ length bytes
+line-there line bytes count b c = omega (arith, c, ap length b, length-padded-le line_bytes line)
+
+-- the line of an answer: none where it is not refused
+abbrev pub line_of : Result RewritingAnswer Refusal → List ℕ
+line_of (Ok _) = []
+line_of (Err e) = refused_line (refusal_number e)
+
+-- what is written for an answer with a line at hand: the final records, or that line where it is a refusal
+abbrev pub written_with : Result RewritingAnswer Refusal → List ℕ → List ℕ → List ℕ → List ℕ
+written_with (Ok answer) input output line = final_records (Ok answer) input output
+written_with (Err e) input output line = line
+
+module _ (input output line : List ℕ) where
+  pub written-final : (answer : RewritingAnswer) → final_records (Ok answer) input output ≡ written_with (Ok answer) input output line
+  written-final answer = refl
+
+  pub written-line : (e : Refusal) → line ≡ written_with (Err e) input output line
+  written-line e = refl
+
+-- with the answer's own line it is what is written for the answer
+pub written-own : (answer : Result RewritingAnswer Refusal) (input output : List ℕ) → written_with answer input output (line_of answer) ≡ written answer input output
+written-own (Ok answer) input output = refl
+written-own (Err e) input output = refl
+
+-- WHAT THE PROGRAM WRITES is that of its answer, its output and the line of its refusal.
+pub program-writes-line :
+    (s : List ℕ)
+    → program_writes s ≡ written_with (program_answer s program_output) s (program_buffer s program_output) (line_of (program_answer s program_output))
+program-writes-line s = program-writes s ∙ sym (written-own (program_answer s program_output) s (program_buffer s program_output))
