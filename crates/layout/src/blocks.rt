@@ -34,14 +34,14 @@ fn put_instructions(
     requires { (from ≤ end) × (end ≤ record_count plan.file.bytes.now) × (row_words * number_at plan.file.bytes.now end ≤ length lists.rows.now) × (first ≡ number_at plan.file.bytes.now from) × Fits out.old (from_to (instruction_part_at plan.file.bytes.now plan.numbers.now plan.slots.now lists.values (rows lists.rows.now) end) from end) × InstructionsFrom plan.file.bytes.now from end }
     ensures { Put out.old (from_to (instruction_part_at plan.entry.file.bytes.now plan.entry.numbers.now plan.entry.slots.now lists.entry.values (rows lists.entry.rows.now) end) from end) out.new }
 {
-    // Counted beside the loop: `enumerate` would count the records, and not the instructions.
     let mut number = first;
-    for p in from..end {
-        if plan.file.kind_at(p) == kinds::INSTRUCTION {
-            let runs = instruction_runs(plan.file, p, end);
-            put_instruction(plan, lists, number, runs, out);
-            number += 1;
-        }
+    let mut p = from;
+    // From instruction to instruction, each of which ends where the next one stands: a `for` would read every record once more.
+    while p < end {
+        let runs = instruction_runs(plan.file, p, end);
+        put_instruction(plan, lists, number, runs, out);
+        number += 1;
+        p = runs.end;
     }
 }
 

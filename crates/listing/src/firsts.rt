@@ -9,14 +9,14 @@ use graph::blocks::Blocks;
 use records::file::File;
 use rules::kinds;
 
-// How many instructions start from a place on and before place end.
+// How many instructions start from a place on and before place end. A sum of ones, since `filter(..).count()` branches at each record.
 fn count_instructions(file: File<'_>, start: usize, end: usize) -> usize
     requires { (start ≤ end) × (end ≤ record_count file.bytes.now) }
     ensures { result ≡ length (heads_from file.entry.bytes.now start end) }
 {
     (start..end)
-        .filter(|&p| file.kind_at(p) == kinds::INSTRUCTION)
-        .count()
+        .map(|p| usize::from(file.kind_at(p) == kinds::INSTRUCTION))
+        .sum()
 }
 
 // Notes the number of each block's first instruction, and behind the last block how many instructions there are.

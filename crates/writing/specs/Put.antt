@@ -98,6 +98,37 @@ put_rest a b rs n y fits same count is w =
       written = all;
     }
 
+-- WHAT IS PUT, BY THE REST: it stands at the front of what was unwritten,
+pub rest_wrote : {a b : Output} {rs : List Record} → a.at ≤ length a.bytes.now → Put a rs b → Wrote (drop a.at a.bytes.now) rs (room rs) (drop a.at b.bytes.now)
+rest_wrote {a} {b} {rs} l w =
+    let x = a.bytes.now in
+    record {
+      count = refl;
+      long = omega (arith, length-drop a.at b.bytes.now, length-drop a.at x, w.long);
+      front =
+          ap (drop a.at) w.written ∙ drop_at (take a.at x) (bytes rs ++ drop (a.at + room rs) x) a.at (omega (arith, l, length-take a.at x))
+          ∙ ap (λ (t : List ℕ). bytes rs ++ t) (sym (drop-drop (room rs) a.at x));
+    }
+
+-- what was written before it stays,
+pub front_stays : {a b : Output} {rs : List Record} → a.at ≤ length a.bytes.now → Put a rs b → take a.at b.bytes.now ≡ take a.at a.bytes.now
+front_stays {a} {b} {rs} l w =
+    let x = a.bytes.now in
+    ap (take a.at) w.written ∙ take_at (take a.at x) (bytes rs ++ drop (a.at + room rs) x) a.at (omega (arith, l, length-take a.at x))
+
+-- and what stands so is put
+pub wrote_put :
+    (a b : Output) {rs : List Record} {n : ℕ} {y : List ℕ} → a.at ≤ length a.bytes.now → b.bytes.ghost_name ≡ a.bytes.ghost_name → b.at ≡ a.at + n
+    → b.bytes.now ≡ take a.at a.bytes.now ++ y → Wrote (drop a.at a.bytes.now) rs n y → Put a rs b
+wrote_put a b {rs} {n} {y} l same count is w =
+    let x = a.bytes.now in
+    record {
+      same = same;
+      count = omega (arith, count, w.count);
+      long = ap length is ∙ omega (arith, l, length-append (take a.at x) y, w.long, length-take a.at x, length-drop a.at x);
+      written = is ∙ ap (λ (t : List ℕ). take a.at x ++ t) (w.front ∙ ap (λ (t : List ℕ). bytes rs ++ t) (drop-drop (room rs) a.at x));
+    }
+
 -- the same records by another name
 pub put_as : {a b : Output} {rs ts : List Record} → rs ≡ ts → Put a rs b → Put a ts b
 put_as e h = rw e at h

@@ -140,10 +140,11 @@ pub fn put_edges(plan: Plan<'_>, part: EdgePart, from: usize, end: usize, out: &
     requires { (from ≤ end) × (end ≤ record_count plan.file.bytes.now) × Fits out.old (from_to (edge_part_at plan.file.bytes.now plan.numbers.now plan.slots.now part end) from end) }
     ensures { Put out.old (from_to (edge_part_at plan.entry.file.bytes.now plan.entry.numbers.now plan.entry.slots.now part end) from end) out.new }
 {
-    for i in from..end {
-        if plan.file.kind_at(i) == kinds::EDGE {
-            let next = next_place(plan.file, kinds::EDGE, i + 1, end);
-            put_edge_part(plan, part, i, next, out);
-        }
+    let mut i = next_place(plan.file, kinds::EDGE, from, end);
+    // From edge to edge, each of which ends where the next one stands: a `for` would read every record once more.
+    while i < end {
+        let next = next_place(plan.file, kinds::EDGE, i + 1, end);
+        put_edge_part(plan, part, i, next, out);
+        i = next;
     }
 }
