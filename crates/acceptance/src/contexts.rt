@@ -9,7 +9,7 @@ ghost use Rattle.graph.specs.Between.{between};
 ghost use Rattle.graph.specs.Tails.{TailsLast, TailLast};
 ghost use Rattle.acceptance.specs.Marked.{block_marked};
 
-use graph::blocks::{Blocks, Reachable};
+use graph::blocks::{BlockTable, ReachableTable};
 use records::file::File;
 use rules::kinds;
 
@@ -32,7 +32,7 @@ fn marked_between(file: File<'_>, start: usize, end: usize) -> bool
 }
 
 // Whether a marked context stands in block b.
-fn marked_in_block(blocks: Blocks<'_>, b: usize) -> bool
+fn marked_in_block(blocks: BlockTable<'_>, b: usize) -> bool
     requires { (b < length (function_in blocks.file.bytes.now).blocks) × TailsLast blocks.file.bytes.now }
     ensures { result ≡ block_marked (function_in blocks.entry.file.bytes.now) b }
 {
@@ -41,7 +41,7 @@ fn marked_in_block(blocks: Blocks<'_>, b: usize) -> bool
 }
 
 // Whether a marked context stands in a reachable block.
-pub fn marked_context(reachable: Reachable<'_>) -> bool
+pub fn marked_context(reachable: ReachableTable<'_>) -> bool
     ensures { result ≡ marked_context (function_in reachable.entry.blocks.file.bytes.now) }
 {
     let blocks = reachable.blocks;

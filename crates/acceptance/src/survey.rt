@@ -9,7 +9,7 @@ ghost use Rattle.acceptance.specs.Stages.{walk_refusals};
 
 use crate::contexts::marked_context;
 use crate::verdict::{function_verdict, records_verdict};
-use graph::blocks::{Blocks, Reachable};
+use graph::blocks::{Blocks, Reachable, ReachableTable};
 use graph::places::places_of;
 use graph::walk::post_order;
 use records::file::File;
@@ -39,7 +39,7 @@ pub struct Survey<'a> {
 }
 
 // Refusal 8: what is wrong with the reachable blocks.
-pub fn walk_verdict(reachable: Reachable<'_>) -> Result<(), Refusal>
+pub fn walk_verdict(reachable: ReachableTable<'_>) -> Result<(), Refusal>
     ensures { result ≡ first_of (walk_refusals reachable.entry.blocks.file.bytes.now) }
 {
     if marked_context(reachable) {
@@ -62,9 +62,10 @@ impl<'a> Survey<'a> {
         let mut index: [usize; LARGEST_BLOCKS] = [0; LARGEST_BLOCKS];
         let mut stack: [usize; LARGEST_BLOCKS] = [0; LARGEST_BLOCKS];
         let mut next: [usize; LARGEST_BLOCKS] = [0; LARGEST_BLOCKS];
-        let reachable = post_order(blocks, &mut order, &mut index, &mut stack, &mut next);
-        walk_verdict(Reachable {
-            blocks,
+        let table = blocks.table();
+        let reachable = post_order(table, &mut order, &mut index, &mut stack, &mut next);
+        walk_verdict(ReachableTable {
+            blocks: table,
             order: &order[..reachable],
         })?;
         Ok(Survey {

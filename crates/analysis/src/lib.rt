@@ -27,10 +27,11 @@ pub fn analyse<'t>(
     requires { Analysable reachable.blocks.file.bytes.now (live_tables first.old from.old next.old uses.old kills.old ins.old outs.old) }
     ensures { Analysed reachable.entry.blocks.file.bytes.now (live_tables first.old from.old next.old uses.old kills.old ins.old outs.old) (live_tables first.new from.new next.new uses.new kills.new ins.new outs.new) result }
 {
-    link_predecessors(reachable, first, from, next);
+    let table = reachable.table();
+    link_predecessors(table, first, from, next);
     block_sets(reachable.blocks, uses, kills);
     let equations = Equations {
-        reachable,
+        reachable: table,
         predecessors: Predecessors { first, from, next },
         rules: Rules { uses, kills },
     };

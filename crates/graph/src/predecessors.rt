@@ -8,7 +8,7 @@ ghost use Rattle.graph.specs.Tails.{TailsLast};
 ghost use Rattle.graph.specs.Links.{links, link_edge, link_block, linked, Linkable, LentLinks};
 ghost use Rattle.graph.specs.Walk.{links_of, OnLists};
 
-use crate::blocks::{Blocks, Reachable};
+use crate::blocks::{BlockTable, ReachableTable};
 use crate::edges::{next_edge, next_edge_in_tail};
 
 // The tables of the lists, and how many entries are in use.
@@ -34,8 +34,8 @@ impl Lists<'_> {
     }
 
     // The edges of block p.
-    fn link_block(&mut self, blocks: Blocks<'_>, p: usize)
-        requires { (p < blocks.count) × TailsLast blocks.file.bytes.now × Linkable (successors (function_in blocks.file.bytes.now) p) (links_of self.old) }
+    fn link_block(&mut self, blocks: BlockTable<'_>, p: usize)
+        requires { (p < length (function_in blocks.file.bytes.now).blocks) × TailsLast blocks.file.bytes.now × Linkable (successors (function_in blocks.file.bytes.now) p) (links_of self.old) }
         ensures value { links_of self.new ≡ link_block (function_in blocks.entry.file.bytes.now) (links_of self.old) p }
         ensures same { OnLists self.old self.new }
     {
@@ -52,7 +52,7 @@ impl Lists<'_> {
 // The lists of the predecessors of all blocks, once an edge, ascending by index. Answers how many entries are in use. The
 // blocks go from the highest index down, and each entry in front of those before it.
 pub fn link_predecessors(
-    reachable: Reachable<'_>,
+    reachable: ReachableTable<'_>,
     first: &mut [usize],
     from: &mut [usize],
     next: &mut [usize],

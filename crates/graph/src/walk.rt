@@ -4,7 +4,7 @@ ghost use Rattle.rules.specs.File.{function_in};
 ghost use Rattle.graph.specs.Tables.{tables, finish_top, enter_block, turn_on, Ready, Lent, Numbered};
 ghost use Rattle.graph.specs.Walk.{tables_of, OnTables};
 
-use crate::blocks::Blocks;
+use crate::blocks::BlockTable;
 use crate::edges::next_edge_in_tail;
 
 // The walk's tables, how many blocks are open, and how many are done. The stack is fixed memory (document 01), and so has its depth beside it.
@@ -36,8 +36,8 @@ impl Walk<'_> {
     }
 
     // Block b goes on top, with all its edges to take.
-    fn enter(&mut self, blocks: Blocks<'_>, b: usize)
-        requires { (b < blocks.count) × (b < length self.old.index.now) × (self.old.depth < length self.old.stack.now) × (self.old.depth < length self.old.next.now) }
+    fn enter(&mut self, blocks: BlockTable<'_>, b: usize)
+        requires { (b < length (function_in blocks.file.bytes.now).blocks) × (b < length self.old.index.now) × (self.old.depth < length self.old.stack.now) × (self.old.depth < length self.old.next.now) }
         ensures value { tables_of self.new ≡ enter_block blocks.entry.places.now b (tables_of self.old) }
         ensures same { OnTables self.old self.new }
     {
@@ -48,7 +48,7 @@ impl Walk<'_> {
     }
 
     // One turn of the walk: the innermost block takes its next edge, or is done.
-    fn turn(&mut self, blocks: Blocks<'_>)
+    fn turn(&mut self, blocks: BlockTable<'_>)
         requires { (0 < self.old.depth) × Ready blocks.file.bytes.now blocks.places.now (tables_of self.old) }
         ensures value { tables_of self.new ≡ turn_on blocks.entry.file.bytes.now blocks.entry.places.now (tables_of self.old) }
         ensures same { OnTables self.old self.new }
@@ -69,7 +69,7 @@ impl Walk<'_> {
 // The post-order walk from block 0: the reachable blocks by ascending index, and for each block one more than its index,
 // 0 where it is not reachable. Answers how many are reachable. The stack is left as it was lent.
 pub fn post_order(
-    blocks: Blocks<'_>,
+    blocks: BlockTable<'_>,
     order: &mut [usize],
     index: &mut [usize],
     stack: &mut [usize],

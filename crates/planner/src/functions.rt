@@ -13,14 +13,14 @@ ghost use Rattle.planner.specs.BlockTables.{PlanTables};
 ghost use Rattle.planner.specs.Functions.{PlanGiven, PlanLent, Begun, FunctionPlanned};
 
 use crate::blocks::{BlockNumber, plan_block};
-use graph::blocks::Reachable;
+use graph::blocks::ReachableTable;
 use planning::SafepointSpiller;
 use planning::spilled::{Spilled, SpilledBlocks};
 
 // The reachable blocks; a table has the number of each block's first instruction, and a row the spilled values.
 pub fn plan_blocks(
     spiller: &mut SafepointSpiller<'_>,
-    reachable: Reachable<'_>,
+    reachable: ReachableTable<'_>,
     firsts: &[usize],
     row: &[u64],
     lists: &[u64],
@@ -50,7 +50,7 @@ pub fn plan_blocks(
 // The whole function, over a spiller at its start.
 pub fn plan_function(
     spiller: &mut SafepointSpiller<'_>,
-    reachable: Reachable<'_>,
+    reachable: ReachableTable<'_>,
     firsts: &[usize],
     row: &[u64],
     lists: &[u64],

@@ -45,7 +45,7 @@ pub fn plan_records(
     };
     plan_function(
         &mut spiller,
-        reachable,
+        reachable.table(),
         firsts,
         rows.spilled,
         rows.lists,

@@ -2,7 +2,7 @@
 ghost use Rattle.rules.specs.File.{function_in};
 ghost use Rattle.solving.specs.Tables.{Ruled, Listed};
 
-use graph::blocks::Reachable;
+use graph::blocks::ReachableTable;
 
 // The lists of predecessors, as `link_predecessors` of graph leaves them: the tag of each block's first entry, and for each entry a
 // predecessor and the tag of the next entry.
@@ -23,7 +23,7 @@ pub struct Rules<'a> {
 // Both, for the blocks of a file.
 #[derive(Clone, Copy)]
 pub struct Equations<'a> {
-    pub reachable: Reachable<'a>,
+    pub reachable: ReachableTable<'a>,
     pub predecessors: Predecessors<'a>,
     pub rules: Rules<'a>,
     ghost listed: { Listed (function_in reachable.blocks.file.bytes.now) predecessors.first.now predecessors.from.now predecessors.next.now },

@@ -69,7 +69,7 @@ fn join_successors(
 // asked through the number of its values. Here and below ins and outs stay two parameters: each contract of a struct of both would
 // have to say that it still holds the same two tables (as `OnTables` of graph does), which is no plainer.
 fn add_live(equations: Equations<'_>, ins: &mut [u64], outs: &mut [u64], b: usize) -> bool
-    requires { LiveTables (function_in equations.reachable.blocks.file.bytes.now) ins.old outs.old × (b < equations.reachable.blocks.count) }
+    requires { LiveTables (function_in equations.reachable.blocks.file.bytes.now) ins.old outs.old × (b < length (function_in equations.reachable.blocks.file.bytes.now).blocks) }
     ensures { Added (function_in equations.entry.reachable.blocks.file.bytes.now) b (rows ins.old) (rows outs.old) (rows ins.new) (rows outs.new) result }
 {
     let blocks = equations.reachable.blocks;

@@ -4,7 +4,7 @@ use Rattle.analysis.specs.Analysis.{links-lent, sets-lent, then-listed, then-rul
 use Rattle.analysis.proofs.analyse.Goals as goal
 
 pub link_predecessors-requires : goal.link_predecessors-requires
-link_predecessors-requires c = links-lent c.requires
+link_predecessors-requires c = rw c.table-table.ensures.0 (links-lent c.requires)
 
 pub block_sets-requires : goal.block_sets-requires
 block_sets-requires c =
@@ -13,10 +13,11 @@ block_sets-requires c =
 
 pub invariant_of-equations : goal.invariant_of-equations
 invariant_of-equations c =
+    let of = c.table-table.ensures.0 in
     record {
-      listed = then-listed c.requires _ _ _ _ c.link_predecessors.ensures;
-      ruled = then-ruled c.requires _ _ c.block_sets.ensures.0 c.block_sets.ensures.1 (search rules) (search rules);
+      listed = rw of (then-listed c.requires _ _ _ _ (rw of at c.link_predecessors.ensures));
+      ruled = rw of (then-ruled c.requires _ _ c.block_sets.ensures.0 c.block_sets.ensures.1 (search rules) (search rules));
     }
 
 pub solve-requires : goal.solve-requires
-solve-requires c = then-solvable c.requires
+solve-requires c = rw c.table-table.ensures.0 (then-solvable c.requires)

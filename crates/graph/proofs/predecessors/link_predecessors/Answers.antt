@@ -10,7 +10,7 @@ pub link_block-requires : goal.link_block-requires
 link_block-requires c =
     let w = c.args.reachable.walked in
     let left = c.loop-i.invariant.1 in (
-      omega (arith, block-in-file _ _ _ w _ _ c.requires _ left c.loop-i-test.true, c.args.reachable.blocks.counted),
+      block-in-file _ _ _ w _ _ c.requires _ left c.loop-i-test.true,
       w.tails,
       block-linkable _ _ _ w _ _ c.requires _ left c.loop-i-test.true,
     )

@@ -10,7 +10,7 @@ pub enter-requires : goal.enter-requires
 enter-requires c =
     let h = c.requires in
     let block = some _ _ h.given in
-    (omega (arith, c.args.blocks.counted), omega (arith, h.room.index), omega (arith, h.room.stack), omega (arith, h.room.next))
+    (block, omega (arith, h.room.index), omega (arith, h.room.stack), omega (arith, h.room.next))
 
 pub loop-walk-init : goal.loop-walk-init
 loop-walk-init c = (

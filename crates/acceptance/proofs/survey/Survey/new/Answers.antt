@@ -49,33 +49,36 @@ post_order-reachable-requires c =
     let s = c.in_ok-file.file.bytes.now in
     let of = c.in_ok-blocks.ensures.verdict in
     let r = read c.in_ok-file.ensures of.0 in
+    let table = c.table-table.ensures in
     let blank = blank-zeros largest_blocks in
-    rw (of.1, of.2) (walk-lent s r.few r.in_order r.in_file _ _ _ _ _ (table-own s r.few (blank-zeros (largest_blocks + 1)).0 c.places_of-count.ensures.1) blank blank blank blank
+    rw (table.0, table.1, of.1, of.2) (walk-lent s r.few r.in_order r.in_file _ _ _ _ _ (table-own s r.few (blank-zeros (largest_blocks + 1)).0 c.places_of-count.ensures.1) blank blank blank blank
     (function-tails r of.0))
 
 pub invariant_of-walk_verdict : goal.invariant_of-walk_verdict
 invariant_of-walk_verdict c =
     let of = c.in_ok-blocks.ensures.verdict in
-    let walk = of-the-file of.1 c.post_order-reachable.ensures in
+    let table = c.table-table.ensures in
+    let walk = of-the-file (table.0 ∙ of.1) c.post_order-reachable.ensures in
     let walked =
     numbered-walked (read c.in_ok-file.ensures of.0) (blank-zeros (largest_blocks + 1)).0 c.places_of-count.ensures.1 (blank-zeros largest_blocks).0 walk.order walk.count of.0 in
-    record { walked = rw (of.1, of.2) (exactly-walked walked) }
+    record { walked = rw (table.0, table.1, of.1, of.2) (exactly-walked walked) }
 
 pub returns-in_err-walk_verdict : goal.returns-in_err-walk_verdict
 returns-in_err-walk_verdict c =
     let p = err_from_is_err_and c.from_residual-in_err-walk_verdict.result c.from_residual-in_err-walk_verdict.ensures.1 in
     let of = c.in_ok-blocks.ensures.verdict in
     rw (p.1, p.2)
-    (by-walk c.in_ok-file.ensures of.0 (subst (λ t. first_of (walk_refusals t) ≡ Err c.in_err-walk_verdict.field-0.0) of.1 (sym c.walk_verdict.ensures ∙ c.in_err-walk_verdict.was)))
+    (by-walk c.in_ok-file.ensures of.0 (subst (λ t. first_of (walk_refusals t) ≡ Err c.in_err-walk_verdict.field-0.0) (c.table-table.ensures.0 ∙ of.1) (sym c.walk_verdict.ensures ∙ c.in_err-walk_verdict.was)))
 
 pub invariant_of-result : goal.invariant_of-result
 invariant_of-result c =
     let of = c.in_ok-blocks.ensures.verdict in
-    let walk = of-the-file of.1 c.post_order-reachable.ensures in
+    let table = c.table-table.ensures in
+    let walk = of-the-file (table.0 ∙ of.1) c.post_order-reachable.ensures in
     record {
       accepted =
           passed-all c.in_ok-file.ensures of.0
-          (subst (λ t. first_of (walk_refusals t) ≡ Ok tt) of.1 (sym c.walk_verdict.ensures ∙ c.in_ok-walk_verdict.was));
+          (subst (λ t. first_of (walk_refusals t) ≡ Ok tt) (table.0 ∙ of.1) (sym c.walk_verdict.ensures ∙ c.in_ok-walk_verdict.was));
       counted = c.places_of-count.ensures.0 ∙ length-block_places c.in_ok-file.file.bytes.now;
       walked =
           numbered-walked (read c.in_ok-file.ensures of.0) (blank-zeros (largest_blocks + 1)).0 c.places_of-count.ensures.1 (blank-zeros largest_blocks).0 walk.order walk.count of.0;

@@ -11,15 +11,12 @@ use Rattle.graph.proofs.Linking.{linking-from, linking-room, linking-inside, lin
 use Rattle.graph.proofs.predecessors.Lists.link_block.Goals as goal
 use Rattle.graph.proofs.predecessors.Lists.link_block.Goals.{After-body-body}
 
-in_file : (c : After-body-body) → c.args.p < length (function_in c.args.blocks.file.bytes.now).blocks
-in_file c = omega (arith, c.requires.0, c.args.blocks.counted)
-
 -- the block's edges stand in its body
 edges : (c : After-body-body)
     → named 7 (between c.args.blocks.file.bytes.now c.body-body.result.start c.body-body.result.end) ≡ successors (function_in c.args.blocks.file.bytes.now) c.args.p
 edges c =
     let s = c.args.blocks.file.bytes.now in
-    rw (c.body-body.ensures.start, c.body-body.ensures.end) (edges-all s c.args.blocks.places.now c.args.blocks.given c.args.p (in_file c))
+    rw (c.body-body.ensures.start, c.body-body.ensures.end) (edges-all s c.args.blocks.places.now c.args.blocks.given c.args.p c.requires.0)
 
 pub next_edge_in_tail-found-requires : goal.next_edge_in_tail-found-requires
 next_edge_in_tail-found-requires c =
@@ -28,7 +25,7 @@ next_edge_in_tail-found-requires c =
       c.body-body.ensures.up,
       c.body-body.ensures.in_file,
       rw (c.body-body.ensures.start, c.body-body.ensures.end)
-          (block-tail s c.args.blocks.places.now c.args.blocks.given c.args.p (in_file at.After-body-body) c.requires.1),
+          (block-tail s c.args.blocks.places.now c.args.blocks.given c.args.p c.requires.0 c.requires.1),
     )
 
 pub loop-found-init : goal.loop-found-init

@@ -34,7 +34,7 @@ pub bounds-self-top : goal.bounds-self-top
 bounds-self-top c = omega (arith, known (goal.at.bounds-self-top c).Start, c.requires.0)
 
 pub body-end-requires : goal.body-end-requires
-body-end-requires c = omega (arith, known (goal.at.body-end-requires c).Start, c.args.blocks.counted)
+body-end-requires c = (known (goal.at.body-end-requires c).Start).listed
 
 pub next_edge_in_tail-requires : goal.next_edge_in_tail-requires
 next_edge_in_tail-requires c =
@@ -62,7 +62,7 @@ pub enter-requires : goal.enter-requires
 enter-requires c =
     let h = target (goal.at.enter-requires c).In-Some in
     let room = h.room c.if-self-edge-eq0.true in
-    (omega (arith, h.listed, c.args.blocks.counted), h.index, room.0, rw length-set room.1)
+    (h.listed, h.index, room.0, rw length-set room.1)
 
 pub returns-then-self-edge-eq0-clause-value : goal.returns-then-self-edge-eq0-clause-value
 returns-then-self-edge-eq0-clause-value c =

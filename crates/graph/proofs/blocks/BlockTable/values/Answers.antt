@@ -1,7 +1,7 @@
--- `graph::blocks::Blocks::values` meets its contract.
+-- `graph::blocks::BlockTable::values` meets its contract.
 use Rattle.std.proofs.Common.{arith}
 use Rattle.graph.specs.ByTable.{places-long, values-by-table}
-use Rattle.graph.proofs.blocks.Blocks.values.Goals as goal
+use Rattle.graph.proofs.blocks.BlockTable.values.Goals as goal
 
 pub bounds-self-0 : goal.bounds-self-0
 bounds-self-0 c = omega (arith, places-long _ _ c.args.self.given)
