@@ -1,8 +1,7 @@
 -- The refusals of a file in three stages, by what they need: its records, the function that they are, and the walk.
 use Rattle.std.specs.Prelude.{ℕ, ◌%◌, ◌≡◌, refl, Bool, true, false, not, ◌&&◌, List, [], ◌∷◌, ◌++◌, length, T, eqb, Result, Ok, Err, is_ok}
-use Rattle.std.proofs.Common.{subst, ◌∙◌}
+use Rattle.std.proofs.Common.{ap, ◌∙◌}
 use Rattle.rules.specs.Limits.{record_bytes}
-use Rattle.rules.specs.Lists.{all}
 use Rattle.rules.specs.Records.{records}
 use Rattle.rules.specs.File.{ordered, function_in}
 use Rattle.rules.specs.Refusals.{Ground, ◌when◌, first_of, too_many, numbered_from, numbers_in_file, defined_once, sound, marked_context, file_refusals}
@@ -35,6 +34,36 @@ walk_refusals s = (refusal.MarkedContext when marked_context (function_in s)) �
 pub stages-all : (s : List ℕ) → file_refusals s ≡ record_refusals s ++ (function_refusals s ++ walk_refusals s)
 unfolding file_refusals record_refusals function_refusals walk_refusals
 stages-all s = refl
+
+-- THE STAGES PASSED. The records of a file can be read as a function,
+abbrev pub records_pass : List ℕ → Bool
+records_pass s = is_ok (first_of (record_refusals s))
+
+-- and the function can be walked.
+abbrev pub function_passes : List ℕ → Bool
+function_passes s = records_pass s && is_ok (first_of (function_refusals s))
+
+-- A list is gone down only where those in front of it let the file pass.
+pub first_of-append :
+    (xs ys : List Ground) → first_of (xs ++ ys) ≡ elim (is_ok (first_of xs)) [ true ↦ first_of ys | false ↦ first_of xs ]
+first_of-append xs ys = go (first_of xs) refl
+  where
+    go : (v : Result Unit Refusal) → first_of xs ≡ v → first_of (xs ++ ys) ≡ elim (is_ok v) [ true ↦ first_of ys | false ↦ v ]
+    go (Ok _) e = passed-append xs ys e
+    go (Err _) e = refused-append xs ys e
+
+pub stages-verdict :
+    (s : List ℕ)
+    → first_of (file_refusals s)
+    ≡ elim (records_pass s) [
+      | true ↦ elim (is_ok (first_of (function_refusals s))) [ true ↦ first_of (walk_refusals s) | false ↦ first_of (function_refusals s) ]
+      | false ↦ first_of (record_refusals s)
+    ]
+stages-verdict s =
+    ap first_of (stages-all s)
+    ∙ first_of-append (record_refusals s) (function_refusals s ++ walk_refusals s)
+    ∙ ap (λ (v : Result Unit Refusal). elim (records_pass s) [ true ↦ v | false ↦ first_of (record_refusals s) ])
+    (first_of-append (function_refusals s) (walk_refusals s))
 
 -- THE STAGES TOGETHER. What refuses a file is the first stage that does not let it pass.
 module _ (s : List ℕ) where

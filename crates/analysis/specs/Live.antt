@@ -7,7 +7,7 @@ use Rattle.rules.specs.Refusals.{first_of, file_refusals}
 use Rattle.graph.specs.Room.{Blank, blank-zeros}
 use Rattle.acceptance.specs.Stages.{Readable}
 use Rattle.acceptance.specs.Survey.{accepted-is, Indexed}
-use Rattle.acceptance.specs.declared.survey.Survey.{Survey}
+use Rattle.acceptance.specs.declared.accepted.Survey.{Survey}
 use Rattle.analysis.specs.Analysis.{live_tables, Analysable}
 
 -- A cleared buffer that is long enough is blank.
@@ -51,7 +51,7 @@ lent-own {s} passed =
 
 -- and a survey's tables are those of an accepted file.
 pub surveyed-indexed :
-    (v : Survey) → Indexed v.file.bytes.now v.places v.order v.index (record { all = v.count; reachable = v.reachable })
+    (v : Survey) → Indexed v.file.bytes.now v.places.now v.order.now v.index.now (record { all = v.count; reachable = v.reachable })
 surveyed-indexed v =
     record {
       accepted = v.accepted;

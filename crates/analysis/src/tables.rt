@@ -31,14 +31,14 @@ pub fn live_tables(reachable: Reachable<'_>, ins: &mut [u64], outs: &mut [u64]) 
 pub fn numbered<'a>(survey: &'a Survey<'a>, firsts: &'a [usize]) -> Numbered<'a>
     requires { Firsts survey.now.file.bytes.now firsts.now }
     ensures file { result.indexed.blocks.file.bytes.now ≡ survey.now.file.bytes.now }
-    ensures places { result.indexed.blocks.places.now ≡ survey.now.places }
-    ensures index { result.indexed.index.now ≡ survey.now.index }
+    ensures places { result.indexed.blocks.places.now ≡ survey.now.places.now }
+    ensures index { result.indexed.index.now ≡ survey.now.index.now }
     ensures firsts { result.firsts.now ≡ firsts.now }
 {
     let blocks = survey.blocks();
     let indexed = Indexed {
         blocks,
-        index: &survey.index,
+        index: survey.index,
     };
     Numbered { indexed, firsts }
 }

@@ -7,7 +7,7 @@ ghost use Rattle.outcomes.specs.Outcomes.{RewritingAllows};
 ghost use Rattle.rewriting.specs.Answers.{Outcome};
 ghost use Rattle.rewriting.specs.Rows.{LiveRows, PointerFine};
 
-use acceptance::survey::{BlockCounts, Survey};
+use acceptance::survey::{BlockCounts, Survey, SurveyMemory};
 use analysis::tables::{live_tables, numbered};
 use listing::blocks::list_safepoints;
 use listing::firsts::number_instructions;
@@ -99,6 +99,9 @@ pub fn rewrite(s: &[u8], pointer: u32, out: &mut [u8]) -> Result<RewritingAnswer
     if pointer != 4 && pointer != 8 {
         return Err(Refusal::PointerSize);
     }
-    let survey = Survey::new(s)?;
+    let mut memory = SurveyMemory::new();
+    let found = memory.survey(s);
+    found.verdict?;
+    let survey = memory.accepted(s, found.blocks);
     rewrite_accepted(&survey, pointer, out)
 }

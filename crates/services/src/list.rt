@@ -4,7 +4,7 @@ ghost use Rattle.outcomes.specs.Outcomes.{ListAllows};
 ghost use Rattle.rows.specs.Rows.{rows, HasRow};
 ghost use Rattle.services.specs.ListRow.{row_answer, row_numbers};
 
-use acceptance::survey::Survey;
+use acceptance::survey::{Survey, SurveyMemory};
 use analysis::tables::{live_tables, numbered};
 use listing::blocks::list_safepoints;
 use listing::firsts::number_instructions;
@@ -53,6 +53,9 @@ pub fn list(s: &[u8], instruction: u32, out: &mut [u32]) -> Result<u32, Refusal>
     ensures { ListAllows s.now instruction (length out.old) result out.new }
 {
     out.fill(0);
-    let survey = Survey::new(s)?;
+    let mut memory = SurveyMemory::new();
+    let found = memory.survey(s);
+    found.verdict?;
+    let survey = memory.accepted(s, found.blocks);
     list_instruction(&survey, instruction, out)
 }

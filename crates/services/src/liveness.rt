@@ -2,7 +2,7 @@
 ghost use Rattle.std.specs.Prelude.{length};
 ghost use Rattle.outcomes.specs.Outcomes.{LivenessAllows};
 
-use acceptance::survey::Survey;
+use acceptance::survey::SurveyMemory;
 use analysis::tables::live_tables;
 use rules::{LivenessCounts, Refusal, TABLE_WORDS};
 
@@ -13,7 +13,10 @@ pub fn liveness(s: &[u8], ins: &mut [u64], outs: &mut [u64]) -> Result<LivenessC
 {
     ins.fill(0);
     outs.fill(0);
-    let survey = Survey::new(s)?;
+    let mut memory = SurveyMemory::new();
+    let found = memory.survey(s);
+    found.verdict?;
+    let survey = memory.accepted(s, found.blocks);
     if ins.len() < TABLE_WORDS || outs.len() < TABLE_WORDS {
         return Err(Refusal::TooShort(TABLE_WORDS as u32));
     }

@@ -55,7 +55,7 @@ rewrite_live-requires c =
             tables =
                 record {
                   accepted = y.accepted;
-                  walked = subst (Walked y.file.bytes.now y.places all.order.now) (sym few) walked;
+                  walked = subst (Walked y.file.bytes.now y.places.now all.order.now) (sym few) walked;
                   all-counted = y.counted;
                   indexed = y.indexed;
                   index-long = y.index_long;

@@ -1,5 +1,5 @@
 -- `services::liveness::liveness` meets its contract.
-use Rattle.std.proofs.Common.{◌≡◌, ◌<◌, ◌≤◌, rules, arith, length, replicate, ◌∙◌}
+use Rattle.std.proofs.Common.{◌≡◌, ◌<◌, ◌≤◌, rules, arith, length, replicate, sym, ◌∙◌}
 use mathlib.Core.Logic.{◌⊎◌, inl, inr}
 use Rattle.std.proofs.lemmas.Result.{err_from_is_err_and}
 use Rattle.rules.specs.Limits.{table_words}
@@ -7,10 +7,10 @@ use Rattle.services.proofs.LiveAnswers.{file-refused, table-short, either-short,
 use Rattle.services.proofs.liveness.liveness.Goals as goal
 use Rattle.services.proofs.liveness.liveness.Goals.{then-ins-lt-TABLE_WORDS-via-then-ins-lt-TABLE_WORDS, then-ins-lt-TABLE_WORDS-via-else-ins-lt-TABLE_WORDS+then-outs-lt-TABLE_WORDS}
 
-pub returns-in_err-survey : goal.returns-in_err-survey
-returns-in_err-survey c =
+pub returns-in_err-found : goal.returns-in_err-found
+returns-in_err-found c =
     let p = err_from_is_err_and c.from_residual.result c.from_residual.ensures.1 in
-    let refused = file-refused c.args.s.now (length c.args.ins.now) (length c.args.outs.now) c.in_err-survey.ensures in
+    let refused = file-refused c.args.s.now (length c.args.ins.now) (length c.args.outs.now) (sym c.survey-found.ensures.says ∙ c.in_err-found.was) in
     let ins : c.fill.new.self ≡ replicate (length c.args.ins.now) 0 = search rules in
     let outs : c.fill-2.new.self ≡ replicate (length c.args.outs.now) 0 = search rules in
     (rw (p.1, p.2) refused.0, ins ∙ refused.1, outs ∙ refused.2)
@@ -27,12 +27,12 @@ returns-then-ins-lt-TABLE_WORDS c =
       | then-ins-lt-TABLE_WORDS-via-else-ins-lt-TABLE_WORDS+then-outs-lt-TABLE_WORDS w ↦
           inr (omega (arith, c.fill-2.ensures.len, w.if-outs-lt-TABLE_WORDS.true))
     ] in
-    let short = table-short c.in_ok-survey.survey.file.bytes.now n m c.in_ok-survey.survey.accepted (either-short n m one) in
-    rw (← c.in_ok-survey.ensures) (short.0, ins ∙ short.1, outs ∙ short.2)
+    let short = table-short c.accepted-survey.result.file.bytes.now n m c.accepted-survey.result.accepted (either-short n m one) in
+    rw (← c.accepted-survey.ensures) (short.0, ins ∙ short.1, outs ∙ short.2)
 
 pub live_tables-requires : goal.live_tables-requires
 live_tables-requires c =
-    let survey = c.in_ok-survey.survey in
+    let survey = c.accepted-survey.result in
     let ins : c.fill.new.self ≡ replicate (length c.args.ins.now) 0 = search rules in
     let outs : c.fill-2.new.self ≡ replicate (length c.args.outs.now) 0 = search rules in
     rw c.reachable.ensures.0
@@ -42,7 +42,7 @@ live_tables-requires c =
 
 pub returns : goal.returns
 returns c =
-    let survey = c.in_ok-survey.survey in
+    let survey = c.accepted-survey.result in
     let s = survey.file.bytes.now in
     let n = length c.args.ins.now in
     let m = length c.args.outs.now in
@@ -50,7 +50,7 @@ returns c =
     let outs-long : table_words ≤ m = omega (arith, c.fill-2.ensures.len, c.if-outs-lt-TABLE_WORDS.false) in
     let live = c.live_tables in
     let found = rw c.reachable.ensures.0 at live.ensures in
-    rw (← c.in_ok-survey.ensures) (
+    rw (← c.accepted-survey.ensures) (
       accepted-answer s n m survey.accepted ins-long outs-long _ _ found.2 found.3,
       accepted-ins s n m survey.accepted ins-long outs-long _ (live.auto.ins ∙ c.fill.ensures.len) (λ i. (c.type_inv.ins i).fits) found.0,
       accepted-outs s n m survey.accepted ins-long outs-long _ (live.auto.outs ∙ c.fill-2.ensures.len) (λ i. (c.type_inv.outs i).fits) found.1,
