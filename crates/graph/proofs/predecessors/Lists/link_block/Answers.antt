@@ -1,5 +1,5 @@
 -- `graph::predecessors::Lists::link_block` meets its contract.
-use Rattle.std.proofs.Common.{◌≡◌, ◌<◌, length, ap, arith, rules}
+use Rattle.std.proofs.Common.{◌≡◌, ap, rules}
 use Rattle.rules.specs.File.{named, function_in}
 use Rattle.rules.specs.Graph.{successors}
 use Rattle.graph.specs.Between.{between}
@@ -20,7 +20,6 @@ edges c =
 
 pub next_edge_in_tail-found-requires : goal.next_edge_in_tail-found-requires
 next_edge_in_tail-found-requires c =
-    let at = goal.at.next_edge_in_tail-found-requires c in
     let s = c.args.blocks.file.bytes.now in (
       c.body-body.ensures.up,
       c.body-body.ensures.in_file,
