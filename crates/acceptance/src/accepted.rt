@@ -78,7 +78,8 @@ impl SurveyMemory {
     // The accepted file, by the tables that its survey left.
     pub fn accepted<'a>(&'a self, s: &'a [u8], blocks: BlockCounts) -> Survey<'a>
         requires { Indexed s.now self.now.places self.now.order self.now.index blocks }
-        ensures { result.file.bytes.now ≡ s.now }
+        ensures file { result.file.bytes.now ≡ s.now }
+        ensures tables { (result.places.now ≡ self.now.places) × (result.order.now ≡ self.now.order) × (result.index.now ≡ self.now.index) }
     {
         Survey {
             file: File { bytes: s },

@@ -28,7 +28,7 @@ returns-then-ins-lt-TABLE_WORDS c =
           inr (omega (arith, c.fill-2.ensures.len, w.if-outs-lt-TABLE_WORDS.true))
     ] in
     let short = table-short c.accepted-survey.result.file.bytes.now n m c.accepted-survey.result.accepted (either-short n m one) in
-    rw (← c.accepted-survey.ensures) (short.0, ins ∙ short.1, outs ∙ short.2)
+    rw (← c.accepted-survey.ensures.file) (short.0, ins ∙ short.1, outs ∙ short.2)
 
 pub live_tables-requires : goal.live_tables-requires
 live_tables-requires c =
@@ -50,7 +50,7 @@ returns c =
     let outs-long : table_words ≤ m = omega (arith, c.fill-2.ensures.len, c.if-outs-lt-TABLE_WORDS.false) in
     let live = c.live_tables in
     let found = rw c.reachable.ensures.0 at live.ensures in
-    rw (← c.accepted-survey.ensures) (
+    rw (← c.accepted-survey.ensures.file) (
       accepted-answer s n m survey.accepted ins-long outs-long _ _ found.2 found.3,
       accepted-ins s n m survey.accepted ins-long outs-long _ (live.auto.ins ∙ c.fill.ensures.len) (λ i. (c.type_inv.ins i).fits) found.0,
       accepted-outs s n m survey.accepted ins-long outs-long _ (live.auto.outs ∙ c.fill-2.ensures.len) (λ i. (c.type_inv.outs i).fits) found.1,
