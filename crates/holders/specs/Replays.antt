@@ -11,8 +11,8 @@ use Rattle.holders.specs.Table.{nobody, taken_by, given_back, changed, Reaches, 
 -- a step keeps the table's length,
 pub length-changed : (c : Change) (table : List Holder) → length (changed c table) ≡ length table
 length-changed (change.Takes at owner size) table = length-set table at (taken_by (get_or table at nobody) owner size)
-length-changed (change.Gives at) table = length-set table at (given_back (get_or table at nobody))
-length-changed change.Nothing table = refl
+length-changed (change.Gives at owner size) table = length-set table at (given_back (get_or table at nobody))
+length-changed (change.Nothing owner size) table = refl
 
 -- and so do all
 pub length-after : (s steps places : List ℕ) (i : ℕ) (table : List Holder) → length (holders_after s steps places i table) ≡ length table
@@ -24,7 +24,7 @@ length-after s steps places (suc i) table =
 pub place-reaches : (step place size : ℕ) (table : List Holder) → place ≤ length table → Reaches (change_of step place size) table
 place-reaches step zero size table within = tt
 place-reaches step (suc slot) size table within =
-    elim (eqb (step % 2) 0) as (λ b. Reaches (cond b (change.Takes slot (step / 2) size) (change.Gives slot)) table) [ true ↦ omega arith | false ↦ omega arith ]
+    elim (eqb (step % 2) 0) as (λ b. Reaches (cond b (change.Takes slot (step / 2) size) (change.Gives slot (step / 2) size)) table) [ true ↦ omega arith | false ↦ omega arith ]
 
 -- STEP i reaches an entry of the table before it.
 pub step-reaches :

@@ -24,23 +24,23 @@ taken_by h value size = record { size = size_taken h size; owner = value; held =
 abbrev pub given_back : Holder → Holder
 given_back h = record { size = h.size; owner = h.owner; held = false }
 
--- ONE STEP: a value takes the slot, or the slot is given back, or nothing changes.
+-- ONE STEP: a value takes the slot, or the slot is given back, or nothing changes. Only taking writes an owner and a size.
 abbrev pub changed : Change → List Holder → List Holder
 changed (change.Takes at owner size) table = set table at (taken_by (get_or table at nobody) owner size)
-changed (change.Gives at) table = set table at (given_back (get_or table at nobody))
-changed change.Nothing table = table
+changed (change.Gives at owner size) table = set table at (given_back (get_or table at nobody))
+changed (change.Nothing owner size) table = table
 
 -- the slot that a step speaks of has an entry
 abbrev pub Reaches : Change → List Holder → Type 0
 Reaches (change.Takes at owner size) table = at < length table
-Reaches (change.Gives at) table = at < length table
-Reaches change.Nothing table = Unit
+Reaches (change.Gives at owner size) table = at < length table
+Reaches (change.Nothing owner size) table = Unit
 
 -- What a step does: in an even one its value takes a slot, in an odd one it gives the slot back. Its place is one more than the
--- slot's number, 0 where nothing changes.
+-- slot's number, 0 where nothing changes. The step's value and that value's size are told in each case.
 abbrev pub change_of : ℕ → ℕ → ℕ → Change
-change_of step zero size = change.Nothing
-change_of step (suc slot) size = cond (eqb (step % 2) 0) (change.Takes slot (step / 2) size) (change.Gives slot)
+change_of step zero size = change.Nothing (step / 2) size
+change_of step (suc slot) size = cond (eqb (step % 2) 0) (change.Takes slot (step / 2) size) (change.Gives slot (step / 2) size)
 
 module _ (s steps places : List ℕ) where
   abbrev pub change_at : ℕ → Change

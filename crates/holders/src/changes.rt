@@ -7,19 +7,19 @@ use crate::{Change, Holder};
 use records::file::File;
 
 // What a step does: in an even one its value takes a slot, in an odd one it gives the slot back. Its place is one more than the
-// slot's number, 0 where nothing changes.
+// slot's number, 0 where nothing changes. The step's value and that value's size are told in each case.
 fn change_of(noted: u32, place: u32, size: u32) -> Change
     ensures { result ≡ change_of noted place size }
 {
+    let owner = noted / 2;
     let Some(slot) = place.checked_sub(1) else {
-        return Change::Nothing;
+        return Change::Nothing { owner, size };
     };
     let at = slot as usize;
     if noted % 2 == 0 {
-        let owner = noted / 2;
         Change::Takes { at, owner, size }
     } else {
-        Change::Gives { at }
+        Change::Gives { at, owner, size }
     }
 }
 
@@ -39,7 +39,7 @@ pub fn change(table: &mut [Holder], c: Change)
 {
     match c {
         Change::Takes { at, owner, size } => take(table, at, owner, size),
-        Change::Gives { at } => give(table, at),
-        Change::Nothing => {}
+        Change::Gives { at, .. } => give(table, at),
+        Change::Nothing { .. } => {}
     }
 }

@@ -16,10 +16,11 @@ pub struct Holder {
     pub held: bool,
 }
 
-// What a step does to the holders: a value of a size takes the slot at a place, or that slot is given back, or neither.
+// What a step does to the holders: its value takes the slot at a place, or gives that slot back, or neither. Each case tells whose
+// step it is, `owner`, and that value's size; only taking writes them into the table.
 #[derive(Clone, Copy, Debug, PartialEq, Eq)]
 pub enum Change {
     Takes { at: usize, owner: u32, size: u32 },
-    Gives { at: usize },
-    Nothing,
+    Gives { at: usize, owner: u32, size: u32 },
+    Nothing { owner: u32, size: u32 },
 }

@@ -43,7 +43,7 @@ pub changed-at :
     ≡ cond (eqb (step % 2) 0) (set table slot (taken_by (get_or table slot nobody) (step / 2) size)) (set table slot (given_back (get_or table slot nobody)))
 changed-at step slot size table = go (eqb (step % 2) 0)
   where
-    go : (even : Bool) → changed (cond even (change.Takes slot (step / 2) size) (change.Gives slot)) table
+    go : (even : Bool) → changed (cond even (change.Takes slot (step / 2) size) (change.Gives slot (step / 2) size)) table
         ≡ cond even (set table slot (taken_by (get_or table slot nobody) (step / 2) size)) (set table slot (given_back (get_or table slot nobody)))
     go true = refl
     go false = refl
