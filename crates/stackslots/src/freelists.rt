@@ -29,12 +29,36 @@ pub fn class_of(size: u32) -> usize
     }
 }
 
+// The tag of a value's slot, 0 for a value that has no place in the table.
+pub fn tag_of(tags: &[u32], v: u32) -> u32
+    ensures { result ≡ get_or tags.now v 0 }
+{
+    tags.get(v as usize).copied().unwrap_or(0)
+}
+
+// A value gets the slot last freed of a class, which is no longer free. The older nodes are only read.
+pub fn take_freed(
+    steps: &[u32],
+    v: usize,
+    class: usize,
+    heads: &mut [usize],
+    older: &[usize],
+    tags: &mut [u32],
+)
+    requires { (class < length heads.old) × (0 < get_or heads.old class 0) × (get_or heads.old class 0 ≤ length older.now) × (get_or heads.old class 0 ≤ length steps.now) × (v < length tags.old) }
+    ensures { (heads.new ≡ set heads.old class (get_or older.now (get_or heads.old class 0 - 1) 0)) × (tags.new ≡ set tags.old v (get_or tags.old (value_of steps.now (get_or heads.old class 0 - 1)) 0)) }
+{
+    let last = heads[class] - 1;
+    tags[v] = tag_of(tags, steps[last] / 2);
+    heads[class] = older[last];
+}
+
 impl StackSlots<'_> {
-    // The tag of a value's slot, 0 for a value that has no place in the table.
+    // The same, in this struct's table of tags.
     pub fn tag_of(&self, v: u32) -> u32
         ensures { result ≡ get_or self.now.tags.now v 0 }
     {
-        self.tags.get(v as usize).copied().unwrap_or(0)
+        tag_of(self.tags, v)
     }
 
     // The slot that step i frees goes on the list of its class.
@@ -47,15 +71,14 @@ impl StackSlots<'_> {
         self.heads[class] = i + 1;
     }
 
-    // A value gets the slot last freed of a class, which is no longer free.
+    // The same, in this struct's tables.
     pub fn take_freed(&mut self, steps: &[u32], v: usize, class: usize)
         requires { let t = tables self.old in (class < length t.heads) × (0 < get_or t.heads class 0) × (get_or t.heads class 0 ≤ length t.older) × (get_or t.heads class 0 ≤ length steps.now) × (v < length t.tags) }
         ensures changed { let t = tables self.old in tables self.new ≡ slot_tables (set t.heads class (get_or t.older (get_or t.heads class 0 - 1) 0)) t.older (set t.tags v (get_or t.tags (value_of steps.now (get_or t.heads class 0 - 1)) 0)) t.made }
         ensures same { SameLent self.old self.new }
     {
-        let last = self.heads[class] - 1;
-        self.tags[v] = self.tag_of(steps[last] / 2);
-        self.heads[class] = self.older[last];
+        // `older` is lent to write like the others: the checker has no rule for a field that is only read beside lent ones
+        take_freed(steps, v, class, self.heads, &mut *self.older, self.tags);
     }
 
     // A value gets a new slot.
