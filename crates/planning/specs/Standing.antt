@@ -12,6 +12,7 @@ use Rattle.lists.specs.Lack.{lack, one}
 use Rattle.sharing.specs.SlotSteps.{SlotStep, gives, frees, replayed}
 use Rattle.rows.specs.Rows.{rows, row_values, HasRow}
 use Rattle.numbering.specs.NewValues.{new_values}
+use Rattle.planning.specs.declared.Progress.{Progress as Declared}
 
 -- A step as a number: value v is given a slot as 2 v, its slot is freed as 2 v + 1.
 abbrev pub step_of : ℕ → SlotStep
@@ -21,16 +22,11 @@ step_of n = cond (eqb (n % 2) 0) (gives (n / 2)) (frees (n / 2))
 unfoldable pub noted : List ℕ → ℕ → List SlotStep
 noted steps n = map step_of (take n steps)
 
--- how far planning has come: the size of an address, how many values the file has and how many are new, how many blocks there are,
--- and how many steps are noted
-pub record Progress : Type 0 where
-  pub pointer : ℕ
-  pub given : ℕ
-  pub made : ℕ
-  pub blocks : ℕ
-  pub steps : ℕ
+-- how far planning has come, as the struct says it,
+abbrev pub Progress : Type 0
+Progress = Declared
 
--- at its start
+-- and at its start
 abbrev pub unplanned : ℕ → ℕ → ℕ → Progress
 unplanned pointer values blocks = record { pointer = pointer; given = values; made = 0; blocks = blocks; steps = 0 }
 

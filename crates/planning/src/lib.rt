@@ -9,6 +9,20 @@ pub mod runs;
 pub mod spilled;
 pub mod steps;
 
+// How far planning has come.
+#[derive(Clone, Copy)]
+pub struct Progress {
+    // the size of an address
+    pub pointer: u32,
+    // how many values the file has, and how many are new
+    pub given: usize,
+    pub made: usize,
+    // how many blocks there are, landings with the file's
+    pub blocks: usize,
+    // how many steps are noted
+    pub steps: usize,
+}
+
 // How far planning has come, over lent tables of fixed memory (document 01), so with their counts beside them, and with steps and tags as the
 // numbers that `step_of` and `made` of specs/ read: the row of the values asked for, the steps noted, the sizes of new values, and beside each
 // record of the file the number that is made for it. A caller makes it by a literal: behind a function that took the four tables, nothing
@@ -19,13 +33,10 @@ pub struct SafepointSpiller<'t> {
     pub steps: &'t mut [u32],
     pub sizes: &'t mut [u32],
     pub numbers: &'t mut [u32],
-    // the size of an address
+    // how far it has come, as `Progress` says it; `noted` is its `steps`
     pub pointer: u32,
-    // how many values the file has, and how many are new
     pub given: usize,
     pub made: usize,
-    // how many blocks there are, landings with the file's
     pub blocks: usize,
-    // how many steps are noted
     pub noted: usize,
 }

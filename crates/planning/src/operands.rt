@@ -2,7 +2,7 @@
 ghost use Rattle.std.specs.Prelude.{◌≡◌, ◌<◌};
 ghost use Rattle.rules.specs.Records.{record_count};
 ghost use Rattle.rows.specs.Rows.{rows, HasRow};
-ghost use Rattle.planning.specs.Operands.{operand_at};
+ghost use Rattle.planning.specs.Operands.{among_of, operand_at};
 
 use records::file::File;
 use rows::contains;
@@ -28,10 +28,18 @@ pub fn operand_at(file: File<'_>, kind: u32, place: usize) -> Option<u32>
 }
 
 // Whether a row has a value; no row has one that it has no bit for.
-pub(crate) fn is_in(t: &[u64], v: u32) -> bool
+fn is_in(t: &[u64], v: u32) -> bool
     requires { HasRow t.now 0 }
     ensures { result ≡ rows t.now 0 v }
 {
     let i = v as usize;
     i < LARGEST_VALUES && contains(t, 0, i)
+}
+
+// An operand that a row has; of one that it has not nothing is left.
+pub fn among(t: &[u64], x: Option<u32>) -> Option<u32>
+    requires { HasRow t.now 0 }
+    ensures { result ≡ among_of (rows t.now 0) x }
+{
+    x.filter(|v| is_in(t, *v))
 }

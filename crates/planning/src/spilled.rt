@@ -5,7 +5,7 @@ ghost use Rattle.graph.specs.Tables.{Given};
 ghost use Rattle.rows.specs.Rows.{rows};
 ghost use Rattle.planning.specs.Operands.{Reading, among_of, operand_at};
 
-use crate::operands::{is_in, operand_at};
+use crate::operands::{among, operand_at};
 use records::file::File;
 
 // A file in order, and the row of its spilled values.
@@ -22,7 +22,7 @@ impl<'a> Spilled<'a> {
         requires { place < record_count self.file.bytes.now }
         ensures { result ≡ among_of (rows self.entry.row.now 0) (operand_at self.entry.file.bytes.now kind place) }
     {
-        operand_at(self.file, kind, place).filter(|v| is_in(self.row, *v))
+        among(self.row, operand_at(self.file, kind, place))
     }
 }
 
