@@ -5,6 +5,7 @@
 
 ghost use Rattle.std.specs.Prelude.{◌≡◌, [], ◌∷◌, ◌<◌, MatchOption};
 ghost use Rattle.rules.specs.Limits.{largest_blocks};
+ghost use Rattle.rules.specs.Lists.{empty};
 ghost use Rattle.fixpoint.specs.Removal.{move_to_top};
 ghost use Rattle.worklist.specs.Entries.{entries, Stacked, Kept};
 
@@ -35,6 +36,13 @@ impl Worklist {
             list.push(order[i]);
         }
         list
+    }
+
+    // Whether no block is left to visit.
+    pub fn is_empty(self) -> bool
+        ensures { result ≡ empty (entries self) }
+    {
+        self.count == 0
     }
 
     // The core of a push, by value as document 01 has it: the block moves to the top, or is put there. What stands above a block that
