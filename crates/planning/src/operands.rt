@@ -36,7 +36,7 @@ fn is_in(t: &[u64], v: u32) -> bool
     i < LARGEST_VALUES && contains(t, 0, i)
 }
 
-// An operand that a row has; of one that it has not nothing is left.
+// A value, if a row has it.
 pub fn among(t: &[u64], x: Option<u32>) -> Option<u32>
     requires { HasRow t.now 0 }
     ensures { result ≡ among_of (rows t.now 0) x }

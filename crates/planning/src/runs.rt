@@ -43,7 +43,7 @@ impl<'t> SafepointSpiller<'t> {
         }
     }
 
-    // The definitions: the function above, on these tables.
+    // The definitions: the function `plan_definitions`, on these tables.
     pub fn plan_definitions(&mut self, spilled: Spilled<'_>, kind: u32, start: usize, end: usize)
         requires { Range spilled.file.bytes.now self.old.numbers.now start end × Good (function_in spilled.file.bytes.now) (tables_of self.old) (end - start) }
         ensures lent { SameLent self.old self.new }

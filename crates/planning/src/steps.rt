@@ -57,7 +57,7 @@ impl<'t> SafepointSpiller<'t> {
         }
     }
 
-    // Planning has come this far: what a function over slices answered is taken back.
+    // Planning has come this far, as a function over slices answered.
     pub(crate) fn come_to(&mut self, p: Progress)
         ensures lent { SameLent self.old self.new }
         ensures numbers { self.new.numbers.now ≡ self.old.numbers.now }
@@ -97,7 +97,7 @@ impl<'t> SafepointSpiller<'t> {
         }
     }
 
-    // Rule 1 likewise: the function above, on these tables. `asked` is lent to write like the others: the checker has no rule for a field
+    // Rule 1 likewise: the function `plan_definition`, on these tables. `asked` is lent to write like the others: the checker has no rule for a field
     // that is only read beside lent ones.
     pub fn plan_definition(&mut self, spilled: Spilled<'_>, kind: u32, place: usize)
         requires { (place < record_count spilled.file.bytes.now) × (place < length self.old.numbers.now) × Good (function_in spilled.file.bytes.now) (tables_of self.old) 1 }

@@ -54,7 +54,7 @@ pub fn take_freed(
 }
 
 impl StackSlots<'_> {
-    // The same, in this struct's table of tags.
+    // The function `tag_of`, on this struct's tags.
     pub fn tag_of(&self, v: u32) -> u32
         ensures { result ≡ get_or self.now.tags.now v 0 }
     {
@@ -71,7 +71,7 @@ impl StackSlots<'_> {
         self.heads[class] = i + 1;
     }
 
-    // The same, in this struct's tables.
+    // The function `take_freed`, on this struct's tables.
     pub fn take_freed(&mut self, steps: &[u32], v: usize, class: usize)
         requires { let t = tables self.old in (class < length t.heads) × (0 < get_or t.heads class 0) × (get_or t.heads class 0 ≤ length t.older) × (get_or t.heads class 0 ≤ length steps.now) × (v < length t.tags) }
         ensures changed { let t = tables self.old in tables self.new ≡ slot_tables (set t.heads class (get_or t.older (get_or t.heads class 0 - 1) 0)) t.older (set t.tags v (get_or t.tags (value_of steps.now (get_or t.heads class 0 - 1)) 0)) t.made }
